@@ -1,0 +1,88 @@
+-- A list of which each element is replaced by a function of its place and itself.
+use mathlib.Core.Path.{_≡_, refl, sym, _∙_, ap}
+use mathlib.Core.List.{List, [], _∷_, _++_}
+use Prim.Native.Nat.{ℕ, zero, suc, _+_, _<_, _≤_}
+use native.Mathlib.Nat.{add-zero, add-suc, suc-add, not-suc-le-zero, le-of-suc-le-suc}
+use native.Mathlib.Numerals.{add-one}
+use native.Mathlib.Omega.{arith}
+use lib.ListN.{length, getD, set}
+use lib.Seq.{ext-getD}
+use Rattle.words.specs.Parts.{part, length-part, getD-part}
+
+-- element k of l becomes f (i + k) of itself
+unfoldable pub mapFrom : (ℕ → ℕ → ℕ) → ℕ → List ℕ → List ℕ
+mapFrom f i [] = []
+mapFrom f i (x ∷ xs) = f i x ∷ mapFrom f (suc i) xs
+
+-- l with its first n elements so replaced: what a loop over l has done after n turns
+unfoldable pub mapFirst : (ℕ → ℕ → ℕ) → ℕ → ℕ → List ℕ → List ℕ
+mapFirst f i zero l = l
+mapFirst f i (suc n) [] = []
+mapFirst f i (suc n) (x ∷ xs) = f i x ∷ mapFirst f (suc i) n xs
+
+pub length-mapFrom : (f : ℕ → ℕ → ℕ) (i : ℕ) (l : List ℕ) → length (mapFrom f i l) ≡ length l
+unfolding mapFrom
+length-mapFrom f i [] = refl
+length-mapFrom f i (x ∷ xs) = ap suc (length-mapFrom f (suc i) xs)
+
+pub getD-mapFrom : (f : ℕ → ℕ → ℕ) (b : ℕ) (l : List ℕ) (i : ℕ) → i < length l → getD (mapFrom f b l) i 0 ≡ f (b + i) (getD l i 0)
+unfolding mapFrom
+getD-mapFrom f b [] i h = absurd (not-suc-le-zero h)
+getD-mapFrom f b (x ∷ l) zero h = ap (λ (k : ℕ). f k x) (sym (add-zero b))
+getD-mapFrom f b (x ∷ l) (suc i) h =
+    getD-mapFrom f (suc b) l i (le-of-suc-le-suc h) ∙ ap (λ (k : ℕ). f k (getD l i 0)) (suc-add b i ∙ sym (add-suc b i))
+
+-- a part of the mapped list is the mapped part
+pub part-mapFrom : (f : ℕ → ℕ → ℕ) (b at n : ℕ) (l : List ℕ) → at + n ≤ length l → part at n (mapFrom f b l) ≡ mapFrom f (b + at) (part at n l)
+part-mapFrom f b at n l h =
+    ext-getD 0 (part at n (mapFrom f b l)) (mapFrom f (b + at) (part at n l)) (first ∙ sym (length-mapFrom f (b + at) (part at n l) ∙ length-part at n l h))
+    (λ i j. let j′ : i < n = omega (arith, first) in
+    getD-part at n (mapFrom f b l) i j′ ∙ getD-mapFrom f b l (at + i) (omega arith)
+    ∙ ap (λ (x : ℕ). f x (getD l (at + i) 0)) (re i) ∙ ap (f (b + at + i)) (sym (getD-part at n l i j′))
+    ∙ sym (getD-mapFrom f (b + at) (part at n l) i (omega (arith, length-part at n l h))))
+  where
+    re : (i : ℕ) → b + (at + i) ≡ b + at + i
+    re i = omega arith
+
+    first : length (part at n (mapFrom f b l)) ≡ n
+    first = length-part at n (mapFrom f b l) (omega (arith, length-mapFrom f b l))
+
+length-mapFirst : (f : ℕ → ℕ → ℕ) (i n : ℕ) (l : List ℕ) → length (mapFirst f i n l) ≡ length l
+unfolding mapFirst
+length-mapFirst f i zero l = refl
+length-mapFirst f i (suc n) [] = refl
+length-mapFirst f i (suc n) (x ∷ xs) = ap suc (length-mapFirst f (suc i) n xs)
+
+-- the element at n is still the old one
+old-mapFirst : (f : ℕ → ℕ → ℕ) (i n : ℕ) (l : List ℕ) → getD (mapFirst f i n l) n 0 ≡ getD l n 0
+unfolding mapFirst
+old-mapFirst f i zero l = refl
+old-mapFirst f i (suc n) [] = refl
+old-mapFirst f i (suc n) (x ∷ xs) = old-mapFirst f (suc i) n xs
+
+more-mapFirst : (f : ℕ → ℕ → ℕ) (i n : ℕ) (l : List ℕ) → n < length l
+    → set (mapFirst f i n l) n (f (i + n) (getD l n 0)) ≡ mapFirst f i (suc n) l
+unfolding mapFirst
+more-mapFirst f i zero [] h = refl
+more-mapFirst f i zero (x ∷ xs) h = rw add-zero
+more-mapFirst f i (suc n) [] h = refl
+more-mapFirst f i (suc n) (x ∷ xs) h = ap (λ (t : List ℕ). f i x ∷ t) (rw (add-suc, ← suc-add) (more-mapFirst f (suc i) n xs (omega arith)))
+
+all-mapFirst : (f : ℕ → ℕ → ℕ) (i : ℕ) (l : List ℕ) → mapFirst f i (length l) l ≡ mapFrom f i l
+unfolding mapFirst mapFrom
+all-mapFirst f i [] = refl
+all-mapFirst f i (x ∷ xs) = ap (λ (t : List ℕ). f i x ∷ t) (all-mapFirst f (suc i) xs)
+
+-- The laws of a loop that replaces the elements one by one, with the premises that the loop offers: m is the list at the loop's head.
+pub none-mapFirst : (f : ℕ → ℕ → ℕ) (i : ℕ) (l : List ℕ) → l ≡ mapFirst f i 0 l
+unfolding mapFirst
+none-mapFirst f i l = refl
+
+pub step-mapFirst : (f : ℕ → ℕ → ℕ) (i n : ℕ) (l m : List ℕ) (b : ℕ) → m ≡ mapFirst f i n l → n < length m → b ≡ f (i + n) (getD m n 0) → set m n b ≡ mapFirst f i (n + 1) l
+step-mapFirst f i n l m b e h w =
+    rw (add-one, w, e, old-mapFirst) (more-mapFirst f i n l (omega (arith, simp (e, length-mapFirst) at h)))
+
+pub done-mapFirst : (f : ℕ → ℕ → ℕ) (i n : ℕ) (l m : List ℕ) → m ≡ mapFirst f i n l → length m ≤ n → n ≤ length l → m ≡ mapFrom f i l
+done-mapFirst f i n l m e p q =
+    let k : n ≡ length l = omega (arith, simp (e, length-mapFirst) at p) in
+    e ∙ (rw k (all-mapFirst f i l))
