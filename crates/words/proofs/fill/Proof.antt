@@ -1,36 +1,27 @@
+-- `words::fill` meets its contract.
 use Rattle.words.specs.Leaves.{lent-fill}
 use borrow.Author.Needs.{needs}
 use Rattle.words.proofs.fill.Statement.{statement}
 use Rattle.words.proofs.fill.Tie as tie
-use Rattle.words.proofs.fill.Reads as reads
-use Rattle.words.proofs.fill.Lts as lts
-use Rattle.words.proofs.fill_all.Reads as fill-all-reads
 
--- src/lib.rt:83:15
 add-end : tie.Need-add-end
 add-end c = search needs
 
--- src/lib.rt:84:14
 sub-fill-all : tie.Need-sub-fill-all
 sub-fill-all c = search needs
 
--- src/lib.rt:84:14
 part-fill-all-start : tie.Need-part-fill-all-start
 part-fill-all-start c = search needs
 
--- src/lib.rt:84:14
 part-fill-all-end : tie.Need-part-fill-all-end
 part-fill-all-end c = search needs
 
--- src/lib.rt:84:5
 fill-all-requires : tie.Need-fill-all-requires
 fill-all-requires c κs = search needs
 
--- src/lib.rt:79:1
 same-length : tie.Need-same-length
 same-length c = search needs
 
--- src/lib.rt:79:1
 returns : tie.Need-returns
 returns c = search (needs, lent-fill)
 

@@ -1,45 +1,34 @@
+-- `words::read_be32` meets its contract.
 use mathlib.Core.Path.{_∙_}
 use Rattle.words.specs.Leaves.{be32-is}
 use borrow.Author.Needs.{needs}
 use Rattle.words.proofs.read_be32.Statement.{statement}
 use Rattle.words.proofs.read_be32.Tie as tie
-use Rattle.words.proofs.read_be32.Reads as reads
-use Rattle.words.proofs.read_be32.Lts as lts
-use Rattle.words.proofs.join.Reads as join-reads
 
--- src/lib.rt:35:12
 add-join : tie.Need-add-join
 add-join c = search needs
 
--- src/lib.rt:35:10
 shared-slice-read-join : tie.Need-shared-slice-read-join
 shared-slice-read-join c = search needs
 
--- src/lib.rt:35:23
 add-join-2 : tie.Need-add-join-2
 add-join-2 c = search needs
 
--- src/lib.rt:35:21
 shared-slice-read-join-2 : tie.Need-shared-slice-read-join-2
 shared-slice-read-join-2 c = search needs
 
--- src/lib.rt:35:34
 add-join-3 : tie.Need-add-join-3
 add-join-3 c = search needs
 
--- src/lib.rt:35:32
 shared-slice-read-join-3 : tie.Need-shared-slice-read-join-3
 shared-slice-read-join-3 c = search needs
 
--- src/lib.rt:35:43
 shared-slice-read-join-4 : tie.Need-shared-slice-read-join-4
 shared-slice-read-join-4 c = search needs
 
--- src/lib.rt:35:5
 join-requires : tie.Need-join-requires
 join-requires c κs = search needs
 
--- src/lib.rt:31:1
 returns : tie.Need-returns
 returns c = c .join .ensures ∙ be32-is _ _ (search needs)
 

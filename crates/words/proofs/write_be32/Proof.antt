@@ -1,61 +1,47 @@
+-- `words::write_be32` meets its contract.
 use native.Mathlib.Omega.{arith}
 use lib.ListN.{length-set}
 use Rattle.words.specs.Leaves.{beBytes-four, splice-four}
 use borrow.Author.Needs.{needs}
 use Rattle.words.proofs.write_be32.Statement.{statement}
 use Rattle.words.proofs.write_be32.Tie as tie
-use Rattle.words.proofs.write_be32.Reads as reads
-use Rattle.words.proofs.write_be32.Lts as lts
 
--- src/lib.rt:54:13
 cast-s : tie.Need-cast-s
 cast-s c = search needs
 
--- src/lib.rt:54:5
 slice-write-s : tie.Need-slice-write-s
 slice-write-s c = search needs
 
--- src/lib.rt:55:17
 cast-s-2 : tie.Need-cast-s-2
 cast-s-2 c = search needs
 
--- src/lib.rt:55:7
 add-s : tie.Need-add-s
 add-s c = search needs
 
--- src/lib.rt:55:5
 slice-write-s-2 : tie.Need-slice-write-s-2
 slice-write-s-2 c = simp length-set (omega arith)
 
--- src/lib.rt:56:17
 cast-s-3 : tie.Need-cast-s-3
 cast-s-3 c = search needs
 
--- src/lib.rt:56:7
 add-s-2 : tie.Need-add-s-2
 add-s-2 c = search needs
 
--- src/lib.rt:56:5
 slice-write-s-3 : tie.Need-slice-write-s-3
 slice-write-s-3 c = simp length-set (omega arith)
 
--- src/lib.rt:57:17
 cast-s-4 : tie.Need-cast-s-4
 cast-s-4 c = search needs
 
--- src/lib.rt:57:7
 add-s-3 : tie.Need-add-s-3
 add-s-3 c = search needs
 
--- src/lib.rt:57:5
 slice-write-s-4 : tie.Need-slice-write-s-4
 slice-write-s-4 c = simp length-set (omega arith)
 
--- src/lib.rt:50:1
 same-length : tie.Need-same-length
 same-length c = search needs
 
--- src/lib.rt:50:1
 returns : tie.Need-returns
 returns c = rw beBytes-four (splice-four _ _ _ _ _ _ (search needs))
 
