@@ -1,0 +1,27 @@
+-- INIT_HCA's mailbox.
+use mathlib.Core.List.{List}
+use Prim.Native.Nat.{ℕ}
+use lib.Dec.{ltb}
+use lib.ListN.{length, getD}
+use Rattle.words.specs.Choice.{pick}
+use Rattle.context.specs.Layout.{fitsStore}
+use Rattle.context.specs.declared.Logs.{Logs}
+use Rattle.context.specs.declared.Init.{Init}
+use Rattle.context.specs.declared.Init.the-variants.{Layout, ShortMailbox, OutOfRange}
+
+-- "QPs in byte 0Fh, CQs 17h, EQs 1Fh, MPTs 37h"
+unfoldable pub logsOf : List ℕ → Logs
+logsOf mailbox = record { qps = getD mailbox 0x0f 0; cqs = getD mailbox 0x17 0; eqs = getD mailbox 0x1f 0; mpts = getD mailbox 0x37 0 }
+
+-- "INIT_HCA (mailbox 64 bytes)"; "mailbox shorter than needed", then "INIT_HCA out of range or larger than the store"
+unfoldable pub initOf : List ℕ → ℕ → Init
+initOf mailbox store =
+    pick (ltb (length mailbox) 64) ShortMailbox
+    (pick (fitsStore (logsOf mailbox) store) (Layout (logsOf mailbox))
+    OutOfRange)
+
+-- 01's number for each answer
+abbrev pub initNumber : Init → ℕ
+initNumber (Layout g) = 0
+initNumber ShortMailbox = 0x83
+initNumber OutOfRange = 3

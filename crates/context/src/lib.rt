@@ -1,0 +1,268 @@
+// The context store: four tables of records, one behind the other, in lent memory.
+ghost use mathlib.Core.Path.{_≡_};
+ghost use mathlib.Core.Bool.{true};
+ghost use Prim.Native.Nat.{_+_, _*_, _^_, _≤_, _<_};
+ghost use lib.Dec.{ltb};
+ghost use lib.ListN.{length};
+ghost use Rattle.context.specs.Layout.{sizeOf, kindOf, numberOf, logOf, countOf, startOf, inUse, rangesHold, fitsStore, isRecord, recordAt, kindCode, sameRecord};
+ghost use Rattle.context.specs.Init.{logsOf, initOf};
+ghost use Rattle.context.specs.Numbers.{qpOf, cqOf, eqOf, mptOf};
+
+// Numbers of the four kinds of record are kept apart: each has a type of its own. One is made by
+// the check against the count (`qp_number` and the others) and then carried.
+pub struct QpNumber(pub u32);
+
+pub struct CqNumber(pub u32);
+
+pub struct EqNumber(pub u32);
+
+pub struct MptNumber(pub u32);
+
+pub enum Kind {
+    Qp,
+    Cq,
+    Eq,
+    Mpt,
+}
+
+// A record of the store: its kind and its number.
+pub enum Record {
+    Qp(QpNumber),
+    Cq(CqNumber),
+    Eq(EqNumber),
+    Mpt(MptNumber),
+}
+
+// The logarithms of the counts of records, which INIT_HCA gives.
+pub struct Logs {
+    pub qps: u8,
+    pub cqs: u8,
+    pub eqs: u8,
+    pub mpts: u8,
+}
+
+// What INIT_HCA's mailbox says.
+pub enum Init {
+    Layout(Logs),
+    ShortMailbox,
+    OutOfRange,
+}
+
+pub enum QpFound {
+    Number(QpNumber),
+    OutOfRange,
+}
+
+pub enum CqFound {
+    Number(CqNumber),
+    OutOfRange,
+}
+
+pub enum EqFound {
+    Number(EqNumber),
+    OutOfRange,
+}
+
+pub enum MptFound {
+    Number(MptNumber),
+    OutOfRange,
+}
+
+pub fn size(kind: Kind) -> usize
+    ensures { λ r. ⌜ r ≡ sizeOf kind ⌝ }
+{
+    match kind {
+        Kind::Qp => 256,
+        Kind::Cq => 64,
+        Kind::Eq => 64,
+        Kind::Mpt => 64,
+    }
+}
+
+pub fn kind_of(rec: Record) -> Kind
+    ensures { λ r. ⌜ r ≡ kindOf rec ⌝ }
+{
+    match rec {
+        Record::Qp(_) => Kind::Qp,
+        Record::Cq(_) => Kind::Cq,
+        Record::Eq(_) => Kind::Eq,
+        Record::Mpt(_) => Kind::Mpt,
+    }
+}
+
+pub fn number_of(rec: Record) -> u32
+    ensures { λ r. ⌜ r ≡ numberOf rec ⌝ }
+{
+    match rec {
+        Record::Qp(n) => n.0,
+        Record::Cq(n) => n.0,
+        Record::Eq(n) => n.0,
+        Record::Mpt(n) => n.0,
+    }
+}
+
+pub fn log_of(logs: Logs, kind: Kind) -> u8
+    ensures { λ r. ⌜ r ≡ logOf logs kind ⌝ }
+{
+    match kind {
+        Kind::Qp => logs.qps,
+        Kind::Cq => logs.cqs,
+        Kind::Eq => logs.eqs,
+        Kind::Mpt => logs.mpts,
+    }
+}
+
+// Whether a number is below the count with this logarithm. Every number of 32 bits is below a
+// count of 2^32 or more, so no logarithm has to be refused first.
+pub fn below_count(log: u8, n: u32) -> bool
+    ensures { λ r. ⌜ r ≡ ltb n (2 ^ log) ⌝ }
+{
+    if 32 <= log {
+        return true;
+    }
+    (n as u64) < 1u64 << log
+}
+
+pub fn qp_number(logs: Logs, n: u32) -> QpFound
+    ensures { λ r. ⌜ r ≡ qpOf logs n ⌝ }
+{
+    if below_count(logs.qps, n) {
+        return QpFound::Number(QpNumber(n));
+    }
+    QpFound::OutOfRange
+}
+
+pub fn cq_number(logs: Logs, n: u32) -> CqFound
+    ensures { λ r. ⌜ r ≡ cqOf logs n ⌝ }
+{
+    if below_count(logs.cqs, n) {
+        return CqFound::Number(CqNumber(n));
+    }
+    CqFound::OutOfRange
+}
+
+pub fn eq_number(logs: Logs, n: u32) -> EqFound
+    ensures { λ r. ⌜ r ≡ eqOf logs n ⌝ }
+{
+    if below_count(logs.eqs, n) {
+        return EqFound::Number(EqNumber(n));
+    }
+    EqFound::OutOfRange
+}
+
+pub fn mpt_number(logs: Logs, n: u32) -> MptFound
+    ensures { λ r. ⌜ r ≡ mptOf logs n ⌝ }
+{
+    if below_count(logs.mpts, n) {
+        return MptFound::Number(MptNumber(n));
+    }
+    MptFound::OutOfRange
+}
+
+pub fn is_record(logs: Logs, rec: Record) -> bool
+    ensures { λ r. ⌜ r ≡ isRecord logs rec ⌝ }
+{
+    below_count(log_of(logs, kind_of(rec)), number_of(rec))
+}
+
+// Whether each logarithm is within its range.
+pub fn ranges_hold(logs: Logs) -> bool
+    ensures { λ r. ⌜ r ≡ rangesHold logs ⌝ }
+{
+    if 14 < logs.qps {
+        return false;
+    }
+    if 14 < logs.cqs {
+        return false;
+    }
+    if 5 < logs.eqs {
+        return false;
+    }
+    logs.mpts <= 16
+}
+
+fn count(log: u8) -> usize
+    requires { ⌜ log ≤ 16 ⌝ }
+    ensures { λ r. ⌜ (r ≡ 2 ^ log) × (r ≤ 65536) ⌝ }
+{
+    1usize << log
+}
+
+// Where a table starts.
+pub fn table_start(logs: Logs, kind: Kind) -> usize
+    requires { ⌜ rangesHold logs ≡ true ⌝ }
+    ensures { λ r. ⌜ r ≡ startOf logs kind ⌝ }
+{
+    let cqs = count(logs.qps) * 256;
+    let eqs = cqs + count(logs.cqs) * 64;
+    let mpts = eqs + count(logs.eqs) * 64;
+    match kind {
+        Kind::Qp => 0,
+        Kind::Cq => cqs,
+        Kind::Eq => eqs,
+        Kind::Mpt => mpts,
+    }
+}
+
+// The bytes that the four tables take.
+pub fn bytes_in_use(logs: Logs) -> usize
+    requires { ⌜ rangesHold logs ≡ true ⌝ }
+    ensures { λ r. ⌜ r ≡ inUse logs ⌝ }
+{
+    table_start(logs, Kind::Mpt) + count(logs.mpts) * 64
+}
+
+// Whether the tables have counts within their ranges and fit a store of this length.
+pub fn fits_store(logs: Logs, store: usize) -> bool
+    ensures { λ r. ⌜ r ≡ fitsStore logs store ⌝ }
+{
+    if !ranges_hold(logs) {
+        return false;
+    }
+    bytes_in_use(logs) <= store
+}
+
+// Where a record starts in the store.
+pub fn record_at(logs: Logs, rec: Record) -> usize
+    requires { ⌜ rangesHold logs ≡ true ⌝ }
+    requires { ⌜ isRecord logs rec ≡ true ⌝ }
+    ensures { λ r. ⌜ r ≡ recordAt logs rec ⌝ }
+{
+    let kind = kind_of(rec);
+    table_start(logs, kind) + number_of(rec) as usize * size(kind)
+}
+
+fn kind_code(kind: Kind) -> u8
+    ensures { λ r. ⌜ r ≡ kindCode kind ⌝ }
+{
+    match kind {
+        Kind::Qp => 0,
+        Kind::Cq => 1,
+        Kind::Eq => 2,
+        Kind::Mpt => 3,
+    }
+}
+
+// Whether two records are one: the same kind and the same number.
+pub fn same_record(a: Record, b: Record) -> bool
+    ensures { λ r. ⌜ r ≡ sameRecord a b ⌝ }
+{
+    if kind_code(kind_of(a)) != kind_code(kind_of(b)) {
+        return false;
+    }
+    number_of(a) == number_of(b)
+}
+
+// The logarithms of INIT_HCA's mailbox.
+pub fn read_init(mailbox: &[u8], store: usize) -> Init
+    ensures { λ r. ⌜ r ≡ initOf (now (mailbox .entry)) store ⌝ }
+{
+    if mailbox.len() < 64 {
+        return Init::ShortMailbox;
+    }
+    let logs = Logs { qps: mailbox[0x0f], cqs: mailbox[0x17], eqs: mailbox[0x1f], mpts: mailbox[0x37] };
+    if fits_store(logs, store) {
+        return Init::Layout(logs);
+    }
+    Init::OutOfRange
+}
