@@ -35,7 +35,7 @@ ranges g h =
       qps = leb-true (g .qps) 14 (both-left (leb (g .qps) 14) _ h);
       cqs = leb-true (g .cqs) 14 (both-left (leb (g .cqs) 14) _ (both-right (leb (g .qps) 14) _ h));
       eqs = leb-true (g .eqs) 5 (both-left (leb (g .eqs) 5) _ (both-right (leb (g .cqs) 14) _ (both-right (leb (g .qps) 14) _ h)));
-      mpts = leb-true (g .mpts) 16 (both-right (leb (g .eqs) 5) _ (both-right (leb (g .cqs) 14) _ (both-right (leb (g .qps) 14) _ h)))
+      mpts = leb-true (g .mpts) 16 (both-right (leb (g .eqs) 5) _ (both-right (leb (g .cqs) 14) _ (both-right (leb (g .qps) 14) _ h)));
     }
 
 -- each count is at most its greatest

@@ -25,4 +25,3 @@ eqOf g n = pick (ltb n (2 ^ g .eqs)) (eqFound.Number (record { 0 = n })) eqFound
 
 abbrev pub mptOf : Logs → ℕ → MptFound
 mptOf g n = pick (ltb n (2 ^ g .mpts)) (mptFound.Number (record { 0 = n })) mptFound.OutOfRange
-

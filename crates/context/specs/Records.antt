@@ -126,7 +126,7 @@ before g r s h k = omega (arith, in-table g r h, tables-apart g (kindOf r) (kind
 
 -- two different records lie apart
 pub records-apart : (g : Logs) (r s : Record) → isRecord g r ≡ true → isRecord g s ≡ true → ¬ (r ≡ s)
-  → Apart (recordAt g r) (recordSize r) (recordAt g s) (recordSize s)
+    → Apart (recordAt g r) (recordSize r) (recordAt g s) (recordSize s)
 unfolding recordAt
 records-apart g r s h k n = go (decLt (kindCode (kindOf r)) (kindCode (kindOf s))) (decLt (kindCode (kindOf s)) (kindCode (kindOf r)))
   where

@@ -4,7 +4,7 @@ ghost use mathlib.Core.Bool.{true};
 ghost use Prim.Native.Nat.{_+_, _*_, _^_, _≤_, _<_};
 ghost use lib.Dec.{ltb};
 ghost use lib.ListN.{length};
-ghost use Rattle.context.specs.Layout.{sizeOf, kindOf, numberOf, logOf, countOf, startOf, inUse, rangesHold, fitsStore, isRecord, recordAt, kindCode, sameRecord};
+ghost use Rattle.context.specs.Layout.{sizeOf, kindOf, numberOf, logOf, countOf, startOf, inUse, rangesHold, fitsStore, isRecord, recordAt, recordSize, kindCode, sameRecord};
 ghost use Rattle.context.specs.Init.{logsOf, initOf};
 ghost use Rattle.context.specs.Numbers.{qpOf, cqOf, eqOf, mptOf};
 
@@ -68,7 +68,7 @@ pub enum MptFound {
     OutOfRange,
 }
 
-pub fn size(kind: Kind) -> usize
+fn size(kind: Kind) -> usize
     ensures { λ r. ⌜ r ≡ sizeOf kind ⌝ }
 {
     match kind {
@@ -79,7 +79,7 @@ pub fn size(kind: Kind) -> usize
     }
 }
 
-pub fn kind_of(rec: Record) -> Kind
+fn kind_of(rec: Record) -> Kind
     ensures { λ r. ⌜ r ≡ kindOf rec ⌝ }
 {
     match rec {
@@ -90,7 +90,7 @@ pub fn kind_of(rec: Record) -> Kind
     }
 }
 
-pub fn number_of(rec: Record) -> u32
+fn number_of(rec: Record) -> u32
     ensures { λ r. ⌜ r ≡ numberOf rec ⌝ }
 {
     match rec {
@@ -101,7 +101,7 @@ pub fn number_of(rec: Record) -> u32
     }
 }
 
-pub fn log_of(logs: Logs, kind: Kind) -> u8
+fn log_of(logs: Logs, kind: Kind) -> u8
     ensures { λ r. ⌜ r ≡ logOf logs kind ⌝ }
 {
     match kind {
@@ -114,7 +114,7 @@ pub fn log_of(logs: Logs, kind: Kind) -> u8
 
 // Whether a number is below the count with this logarithm. Every number of 32 bits is below a
 // count of 2^32 or more, so no logarithm has to be refused first.
-pub fn below_count(log: u8, n: u32) -> bool
+fn below_count(log: u8, n: u32) -> bool
     ensures { λ r. ⌜ r ≡ ltb n (2 ^ log) ⌝ }
 {
     if 32 <= log {
@@ -166,7 +166,7 @@ pub fn is_record(logs: Logs, rec: Record) -> bool
 }
 
 // Whether each logarithm is within its range.
-pub fn ranges_hold(logs: Logs) -> bool
+fn ranges_hold(logs: Logs) -> bool
     ensures { λ r. ⌜ r ≡ rangesHold logs ⌝ }
 {
     if 14 < logs.qps {
@@ -189,7 +189,7 @@ fn count(log: u8) -> usize
 }
 
 // Where a table starts.
-pub fn table_start(logs: Logs, kind: Kind) -> usize
+fn table_start(logs: Logs, kind: Kind) -> usize
     requires { ⌜ rangesHold logs ≡ true ⌝ }
     ensures { λ r. ⌜ r ≡ startOf logs kind ⌝ }
 {
@@ -220,6 +220,13 @@ pub fn fits_store(logs: Logs, store: usize) -> bool
         return false;
     }
     bytes_in_use(logs) <= store
+}
+
+// The bytes of a record.
+pub fn record_size(rec: Record) -> usize
+    ensures { λ r. ⌜ r ≡ recordSize rec ⌝ }
+{
+    size(kind_of(rec))
 }
 
 // Where a record starts in the store.
@@ -260,7 +267,12 @@ pub fn read_init(mailbox: &[u8], store: usize) -> Init
     if mailbox.len() < 64 {
         return Init::ShortMailbox;
     }
-    let logs = Logs { qps: mailbox[0x0f], cqs: mailbox[0x17], eqs: mailbox[0x1f], mpts: mailbox[0x37] };
+    let logs = Logs {
+        qps: mailbox[0x0f],
+        cqs: mailbox[0x17],
+        eqs: mailbox[0x1f],
+        mpts: mailbox[0x37],
+    };
     if fits_store(logs, store) {
         return Init::Layout(logs);
     }

@@ -1,0 +1,3 @@
+-- The states of a queue pair and the moves between them.
+pub mod States
+pub mod Edges

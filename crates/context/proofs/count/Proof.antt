@@ -1,3 +1,4 @@
+-- `context::count` meets its contract.
 use native.Mathlib.Omega.{arith}
 use mathlib.Core.Path.{refl}
 use Prim.Native.Nat.{_<_, _≤_, _^_}
@@ -6,14 +7,10 @@ use Rattle.context.specs.Counts.{one-shifted}
 use borrow.Author.Needs.{needs}
 use Rattle.context.proofs.count.Statement.{statement}
 use Rattle.context.proofs.count.Tie as tie
-use Rattle.context.proofs.count.Reads as reads
-use Rattle.context.proofs.count.Lts as lts
 
--- src/lib.rt:188:5
 shl-result : tie.Need-shl-result
 shl-result c = search needs
 
--- src/lib.rt:184:1
 returns : tie.Need-returns
 returns c =
     let h : c .args .log < 64 = omega arith in

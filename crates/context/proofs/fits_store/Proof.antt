@@ -1,28 +1,21 @@
+-- `context::fits_store` meets its contract.
 use Rattle.words.specs.Choice.{cases}
 use borrow.Author.Tests.{not-true, not-false}
 use Rattle.context.specs.Layout.{fitsStore}
 use borrow.Author.Needs.{needs}
 use Rattle.context.proofs.fits_store.Statement.{statement}
 use Rattle.context.proofs.fits_store.Tie as tie
-use Rattle.context.proofs.fits_store.Reads as reads
-use Rattle.context.proofs.fits_store.Lts as lts
-use Rattle.context.proofs.bytes_in_use.Reads as bytes-in-use-reads
-use Rattle.context.proofs.ranges_hold.Reads as ranges-hold-reads
 
--- src/lib.rt:219:9
 ranges-hold-requires : tie.Need-ranges-hold-requires
 ranges-hold-requires c κs = search needs
 
--- src/lib.rt:220:9
 returns : tie.Need-returns
 unfolding fitsStore
 returns c = search (cases, not-true) depth 8
 
--- src/lib.rt:222:5
 bytes-in-use-requires : tie.Need-bytes-in-use-requires
 bytes-in-use-requires c κs = search (cases, not-false) depth 8
 
--- src/lib.rt:216:1
 returns-2 : tie.Need-returns-2
 unfolding fitsStore
 returns-2 c = rw (← c .bytes-in-use .ensures) (search (cases, not-false) depth 8)

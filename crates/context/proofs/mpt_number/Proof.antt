@@ -1,20 +1,15 @@
+-- `context::mpt_number` meets its contract.
 use Rattle.words.specs.Choice.{cases}
 use borrow.Author.Needs.{needs}
 use Rattle.context.proofs.mpt_number.Statement.{statement}
 use Rattle.context.proofs.mpt_number.Tie as tie
-use Rattle.context.proofs.mpt_number.Reads as reads
-use Rattle.context.proofs.mpt_number.Lts as lts
-use Rattle.context.proofs.below_count.Reads as below-count-reads
 
--- src/lib.rt:156:8
 below-count-requires : tie.Need-below-count-requires
 below-count-requires c κs = search needs
 
--- src/lib.rt:157:9
 returns : tie.Need-returns
 returns c = search cases
 
--- src/lib.rt:153:1
 returns-2 : tie.Need-returns-2
 returns-2 c = search cases
 

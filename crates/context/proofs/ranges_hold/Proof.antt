@@ -1,26 +1,21 @@
+-- `context::ranges_hold` meets its contract.
 use Rattle.words.specs.Choice.{cases}
 use Rattle.context.specs.Layout.{rangesHold}
 use Rattle.context.proofs.ranges_hold.Statement.{statement}
 use Rattle.context.proofs.ranges_hold.Tie as tie
-use Rattle.context.proofs.ranges_hold.Reads as reads
-use Rattle.context.proofs.ranges_hold.Lts as lts
 
--- src/lib.rt:173:9
 returns : tie.Need-returns
 unfolding rangesHold
 returns c = search cases depth 8
 
--- src/lib.rt:176:9
 returns-2 : tie.Need-returns-2
 unfolding rangesHold
 returns-2 c = search cases depth 8
 
--- src/lib.rt:179:9
 returns-3 : tie.Need-returns-3
 unfolding rangesHold
 returns-3 c = search cases depth 8
 
--- src/lib.rt:169:1
 returns-4 : tie.Need-returns-4
 unfolding rangesHold
 returns-4 c = search cases depth 8

@@ -1,3 +1,4 @@
+-- `context::record_at` meets its contract.
 use native.Mathlib.Omega.{arith}
 use mathlib.Core.Path.{_≡_}
 use Prim.Native.Nat.{_*_}
@@ -6,34 +7,22 @@ use Rattle.context.specs.Records.{record-small}
 use borrow.Author.Needs.{needs}
 use Rattle.context.proofs.record_at.Statement.{statement}
 use Rattle.context.proofs.record_at.Tie as tie
-use Rattle.context.proofs.record_at.Reads as reads
-use Rattle.context.proofs.record_at.Lts as lts
-use Rattle.context.proofs.kind_of.Reads as kind-of-reads
-use Rattle.context.proofs.number_of.Reads as number-of-reads
-use Rattle.context.proofs.size.Reads as size-reads
-use Rattle.context.proofs.table_start.Reads as table-start-reads
 
--- src/lib.rt:231:9
 kind-of-requires : tie.Need-kind-of-requires
 kind-of-requires c κs = search needs
 
--- src/lib.rt:232:5
 table-start-requires : tie.Need-table-start-requires
 table-start-requires c κs = search needs
 
--- src/lib.rt:232:31
 number-of-requires : tie.Need-number-of-requires
 number-of-requires c κs = search needs
 
--- src/lib.rt:232:31
 cast-result : tie.Need-cast-result
 cast-result c = search needs
 
--- src/lib.rt:232:57
 size-requires : tie.Need-size-requires
 size-requires c κs = search needs
 
--- src/lib.rt:232:31
 mul-result : tie.Need-mul-result
 unfolding recordAt
 mul-result c =
@@ -42,7 +31,6 @@ mul-result c =
     let s : c .before .before .table-start .result ≡ startOf (a .logs) (kindOf (a .rec)) = cc in
     omega (arith, record-small (a .logs) (a .rec) (c .before .before .before .before .pre .0) (c .before .before .before .before .pre .1))
 
--- src/lib.rt:232:5
 add-result : tie.Need-add-result
 unfolding recordAt
 add-result c =
@@ -51,7 +39,6 @@ add-result c =
     let s : c .before .before .table-start .result ≡ startOf (a .logs) (kindOf (a .rec)) = cc in
     omega (arith, record-small (a .logs) (a .rec) (c .before .before .before .before .pre .0) (c .before .before .before .before .pre .1))
 
--- src/lib.rt:226:1
 returns : tie.Need-returns
 unfolding recordAt
 returns c = cc

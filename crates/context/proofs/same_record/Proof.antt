@@ -1,3 +1,4 @@
+-- `context::same_record` meets its contract.
 use mathlib.Core.Path.{_≡_}
 use Rattle.context.specs.Layout.{kindOf, numberOf, kindCode}
 use Rattle.words.specs.Choice.{cases}
@@ -5,29 +6,19 @@ use Rattle.context.specs.Layout.{sameRecord}
 use borrow.Author.Needs.{needs}
 use Rattle.context.proofs.same_record.Statement.{statement}
 use Rattle.context.proofs.same_record.Tie as tie
-use Rattle.context.proofs.same_record.Reads as reads
-use Rattle.context.proofs.same_record.Lts as lts
-use Rattle.context.proofs.kind_code.Reads as kind-code-reads
-use Rattle.context.proofs.kind_of.Reads as kind-of-reads
-use Rattle.context.proofs.number_of.Reads as number-of-reads
 
--- src/lib.rt:250:18
 kind-of-requires : tie.Need-kind-of-requires
 kind-of-requires c κs = search needs
 
--- src/lib.rt:250:8
 kind-code-requires : tie.Need-kind-code-requires
 kind-code-requires c κs = search needs
 
--- src/lib.rt:250:43
 kind-of-requires-2 : tie.Need-kind-of-requires-2
 kind-of-requires-2 c κs = search needs
 
--- src/lib.rt:250:33
 kind-code-requires-2 : tie.Need-kind-code-requires-2
 kind-code-requires-2 c κs = search needs
 
--- src/lib.rt:251:9
 returns : tie.Need-returns
 unfolding sameRecord
 returns c =
@@ -36,15 +27,12 @@ returns c =
     let f : c .before .kind-code2 .result ≡ kindCode (kindOf (a .b)) = cc in
     rw (← e, ← f) (search cases)
 
--- src/lib.rt:253:5
 number-of-requires : tie.Need-number-of-requires
 number-of-requires c κs = search needs
 
--- src/lib.rt:253:21
 number-of-requires-2 : tie.Need-number-of-requires-2
 number-of-requires-2 c κs = search needs
 
--- src/lib.rt:247:1
 returns-2 : tie.Need-returns-2
 unfolding sameRecord
 returns-2 c =

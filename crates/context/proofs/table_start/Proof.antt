@@ -1,73 +1,55 @@
+-- `context::table_start` meets its contract.
 use native.Mathlib.Omega.{arith}
 use Rattle.context.specs.Counts.{ranges}
 use borrow.Author.Needs.{needs}
 use Rattle.context.proofs.table_start.Statement.{statement}
 use Rattle.context.proofs.table_start.Tie as tie
-use Rattle.context.proofs.table_start.Reads as reads
-use Rattle.context.proofs.table_start.Lts as lts
-use Rattle.context.proofs.count.Reads as count-reads
 
--- src/lib.rt:196:15
 count-requires : tie.Need-count-requires
 count-requires c κs = omega (arith, ranges _ (c .pre) .qps)
 
--- src/lib.rt:196:15
 mul-cqs : tie.Need-mul-cqs
 mul-cqs c = search needs
 
--- src/lib.rt:197:21
 count-requires-2 : tie.Need-count-requires-2
 count-requires-2 c κs = omega (arith, ranges _ (c .before .pre) .cqs)
 
--- src/lib.rt:197:21
 mul-eqs : tie.Need-mul-eqs
 mul-eqs c = search needs
 
--- src/lib.rt:197:15
 add-eqs : tie.Need-add-eqs
 add-eqs c = search needs
 
--- src/lib.rt:198:22
 count-requires-3 : tie.Need-count-requires-3
 count-requires-3 c κs = omega (arith, ranges _ (c .before .before .pre) .eqs)
 
--- src/lib.rt:198:22
 mul-mpts : tie.Need-mul-mpts
 mul-mpts c = search needs
 
--- src/lib.rt:198:16
 add-mpts : tie.Need-add-mpts
 add-mpts c = search needs
 
--- src/lib.rt:200:21
 enum-told : tie.Need-enum-told
 enum-told c = search needs
 
--- src/lib.rt:201:21
 enum-told-2 : tie.Need-enum-told-2
 enum-told-2 c = search needs
 
--- src/lib.rt:202:21
 enum-told-3 : tie.Need-enum-told-3
 enum-told-3 c = search needs
 
--- src/lib.rt:203:22
 enum-told-4 : tie.Need-enum-told-4
 enum-told-4 c = search needs
 
--- src/lib.rt:192:1
 returns : tie.Need-returns
 returns c = search needs
 
--- src/lib.rt:192:1
 returns-2 : tie.Need-returns-2
 returns-2 c = cc
 
--- src/lib.rt:192:1
 returns-3 : tie.Need-returns-3
 returns-3 c = cc
 
--- src/lib.rt:192:1
 returns-4 : tie.Need-returns-4
 returns-4 c = cc
 

@@ -1,0 +1,19 @@
+-- `requests::query` meets its contract.
+use borrow.Author.Needs.{needs}
+use Rattle.requests.proofs.query.Statement.{statement}
+use Rattle.requests.proofs.query.Tie as tie
+
+enum-known-found : tie.Need-enum-known-found
+enum-known-found c = search needs
+
+enum-told : tie.Need-enum-told
+enum-told c = search needs
+
+returns : tie.Need-returns
+returns c = cc
+
+returns-2 : tie.Need-returns-2
+returns-2 c = search needs
+
+pub query-spec : {M : Type 1} → statement M
+query-spec = tie.close (tie.spec enum-known-found enum-told returns returns-2)

@@ -1,0 +1,358 @@
+// What a request is: the commands on a record and the engine requests, and how one is read from
+// a command's op and modifiers or from an engine request's number and fields.
+use context::CqFound;
+use context::CqNumber;
+use context::EqFound;
+use context::EqNumber;
+use context::Logs;
+use context::MptFound;
+use context::MptNumber;
+use context::QpFound;
+use context::QpNumber;
+use edges::Edge;
+use edges::State;
+ghost use mathlib.Core.Path.{_≡_};
+ghost use Rattle.context.specs.Numbers.{qpOf, cqOf, eqOf, mptOf};
+ghost use Rattle.requests.specs.Commands.{opOf, edgeModifier, opModifierOf, onMpt, onEq, onCq, ownedOf, atOnce, sw2hwOf, hw2swOf, resizeOf, queryOf, modifyOf, addressed, commandOf};
+ghost use Rattle.requests.specs.Engines.{numberOf, stateFrom, engineWriteOf, engineOn, engineOf};
+
+// A record that software and hardware hand over to each other.
+pub enum Owned {
+    Mpt(MptNumber),
+    Eq(EqNumber),
+    Cq(CqNumber),
+}
+
+// The commands on a record, which use a slot.
+pub enum Command {
+    Sw2Hw(Owned),
+    Hw2Sw(Owned),
+    ResizeCq(CqNumber),
+    QueryQp(QpNumber),
+    ModifyQp(Edge, QpNumber),
+}
+
+// Which packet sequence number (PSN) of a queue pair an engine write sets.
+pub enum Psn {
+    NextSend,
+    LastAcked,
+    Expected,
+}
+
+pub enum Engine {
+    ReadState(QpNumber),
+    ReadNext(QpNumber),
+    ReadAll(QpNumber),
+    // The PSN and the state that the write leaves.
+    Write(Psn, QpNumber, u32, State),
+}
+
+pub enum Request {
+    Command(Command),
+    Engine(Engine),
+}
+
+// The tables whose records have an owner.
+pub enum Table {
+    Mpt,
+    Eq,
+    Cq,
+}
+
+// The ops that are served.
+pub enum Op {
+    InitHca,
+    CloseHca,
+    Nop,
+    Sw2Hw(Table),
+    Hw2Sw(Table),
+    ResizeCq,
+    QueryQp,
+    ModifyQp(Edge),
+}
+
+pub enum OpFound {
+    Served(Op),
+    NotServed,
+}
+
+// What a command asks for, once its modifiers are judged. The first three are done at once and use
+// no slot.
+pub enum CommandFound {
+    InitHca,
+    CloseHca,
+    Nop,
+    OnRecord(Command),
+    Wrong,
+}
+
+pub enum OwnedFound {
+    Record(Owned),
+    OutOfRange,
+}
+
+// The engine requests' numbers that are served.
+pub enum EngineNumber {
+    ReadState,
+    ReadNext,
+    ReadAll,
+    Write(Psn),
+}
+
+pub enum NumberFound {
+    Served(EngineNumber),
+    NotServed,
+}
+
+pub enum StateFound {
+    State(State),
+    OutOfRange,
+}
+
+pub enum EngineFound {
+    Asked(Engine),
+    Wrong,
+}
+
+pub fn read_op(code: u16) -> OpFound
+    ensures { λ r. ⌜ r ≡ opOf code ⌝ }
+{
+    match code {
+        0x07 => OpFound::Served(Op::InitHca),
+        0x08 => OpFound::Served(Op::CloseHca),
+        0x31 => OpFound::Served(Op::Nop),
+        0x0d => OpFound::Served(Op::Sw2Hw(Table::Mpt)),
+        0x13 => OpFound::Served(Op::Sw2Hw(Table::Eq)),
+        0x16 => OpFound::Served(Op::Sw2Hw(Table::Cq)),
+        0x0f => OpFound::Served(Op::Hw2Sw(Table::Mpt)),
+        0x14 => OpFound::Served(Op::Hw2Sw(Table::Eq)),
+        0x17 => OpFound::Served(Op::Hw2Sw(Table::Cq)),
+        0x2c => OpFound::Served(Op::ResizeCq),
+        0x22 => OpFound::Served(Op::QueryQp),
+        0x19 => OpFound::Served(Op::ModifyQp(Edge::ResetToInit)),
+        0x2d => OpFound::Served(Op::ModifyQp(Edge::InitToInit)),
+        0x1a => OpFound::Served(Op::ModifyQp(Edge::InitToRtr)),
+        0x1b => OpFound::Served(Op::ModifyQp(Edge::RtrToRts)),
+        0x1c => OpFound::Served(Op::ModifyQp(Edge::RtsToRts)),
+        0x1d => OpFound::Served(Op::ModifyQp(Edge::SqeToRts)),
+        0x1f => OpFound::Served(Op::ModifyQp(Edge::RtsToSqd)),
+        0x38 => OpFound::Served(Op::ModifyQp(Edge::SqdToSqd)),
+        0x20 => OpFound::Served(Op::ModifyQp(Edge::SqdToRts)),
+        0x1e => OpFound::Served(Op::ModifyQp(Edge::ToErr)),
+        0x21 => OpFound::Served(Op::ModifyQp(Edge::ToReset)),
+        _ => OpFound::NotServed,
+    }
+}
+
+fn edge_modifier(edge: Edge) -> u8
+    ensures { λ r. ⌜ r ≡ edgeModifier edge ⌝ }
+{
+    match edge {
+        Edge::ResetToInit => 0,
+        Edge::InitToInit => 0,
+        Edge::InitToRtr => 0,
+        Edge::RtrToRts => 0,
+        Edge::RtsToRts => 0,
+        Edge::SqeToRts => 0,
+        Edge::RtsToSqd => 0,
+        Edge::SqdToSqd => 0,
+        Edge::SqdToRts => 0,
+        Edge::ToErr => 3,
+        Edge::ToReset => 3,
+    }
+}
+
+fn op_modifier(op: Op) -> u8
+    ensures { λ r. ⌜ r ≡ opModifierOf op ⌝ }
+{
+    match op {
+        Op::InitHca => 0,
+        Op::CloseHca => 0,
+        Op::Nop => 0,
+        Op::Sw2Hw(_) => 0,
+        Op::Hw2Sw(_) => 0,
+        Op::ResizeCq => 0,
+        Op::QueryQp => 0,
+        Op::ModifyQp(edge) => edge_modifier(edge),
+    }
+}
+
+fn owned_mpt(logs: Logs, n: u32) -> OwnedFound
+    ensures { λ r. ⌜ r ≡ onMpt (mptOf logs n) ⌝ }
+{
+    match context::mpt_number(logs, n) {
+        MptFound::Number(m) => OwnedFound::Record(Owned::Mpt(m)),
+        MptFound::OutOfRange => OwnedFound::OutOfRange,
+    }
+}
+
+fn owned_eq(logs: Logs, n: u32) -> OwnedFound
+    ensures { λ r. ⌜ r ≡ onEq (eqOf logs n) ⌝ }
+{
+    match context::eq_number(logs, n) {
+        EqFound::Number(m) => OwnedFound::Record(Owned::Eq(m)),
+        EqFound::OutOfRange => OwnedFound::OutOfRange,
+    }
+}
+
+fn owned_cq(logs: Logs, n: u32) -> OwnedFound
+    ensures { λ r. ⌜ r ≡ onCq (cqOf logs n) ⌝ }
+{
+    match context::cq_number(logs, n) {
+        CqFound::Number(m) => OwnedFound::Record(Owned::Cq(m)),
+        CqFound::OutOfRange => OwnedFound::OutOfRange,
+    }
+}
+
+fn read_owned(table: Table, logs: Logs, n: u32) -> OwnedFound
+    ensures { λ r. ⌜ r ≡ ownedOf logs table n ⌝ }
+{
+    match table {
+        Table::Mpt => owned_mpt(logs, n),
+        Table::Eq => owned_eq(logs, n),
+        Table::Cq => owned_cq(logs, n),
+    }
+}
+
+fn sw2hw(found: OwnedFound) -> CommandFound
+    ensures { λ r. ⌜ r ≡ sw2hwOf found ⌝ }
+{
+    match found {
+        OwnedFound::Record(rec) => CommandFound::OnRecord(Command::Sw2Hw(rec)),
+        OwnedFound::OutOfRange => CommandFound::Wrong,
+    }
+}
+
+fn hw2sw(found: OwnedFound) -> CommandFound
+    ensures { λ r. ⌜ r ≡ hw2swOf found ⌝ }
+{
+    match found {
+        OwnedFound::Record(rec) => CommandFound::OnRecord(Command::Hw2Sw(rec)),
+        OwnedFound::OutOfRange => CommandFound::Wrong,
+    }
+}
+
+fn resize(found: CqFound) -> CommandFound
+    ensures { λ r. ⌜ r ≡ resizeOf found ⌝ }
+{
+    match found {
+        CqFound::Number(n) => CommandFound::OnRecord(Command::ResizeCq(n)),
+        CqFound::OutOfRange => CommandFound::Wrong,
+    }
+}
+
+fn query(found: QpFound) -> CommandFound
+    ensures { λ r. ⌜ r ≡ queryOf found ⌝ }
+{
+    match found {
+        QpFound::Number(n) => CommandFound::OnRecord(Command::QueryQp(n)),
+        QpFound::OutOfRange => CommandFound::Wrong,
+    }
+}
+
+fn modify(edge: Edge, found: QpFound) -> CommandFound
+    ensures { λ r. ⌜ r ≡ modifyOf edge found ⌝ }
+{
+    match found {
+        QpFound::Number(n) => CommandFound::OnRecord(Command::ModifyQp(edge, n)),
+        QpFound::OutOfRange => CommandFound::Wrong,
+    }
+}
+
+// A command without a record has the in_modifier 0.
+fn at_once(found: CommandFound, n: u32) -> CommandFound
+    ensures { λ r. ⌜ r ≡ atOnce found n ⌝ }
+{
+    if n == 0 {
+        return found;
+    }
+    CommandFound::Wrong
+}
+
+fn on_record(op: Op, logs: Logs, n: u32) -> CommandFound
+    ensures { λ r. ⌜ r ≡ addressed logs op n ⌝ }
+{
+    match op {
+        Op::InitHca => at_once(CommandFound::InitHca, n),
+        Op::CloseHca => at_once(CommandFound::CloseHca, n),
+        Op::Nop => at_once(CommandFound::Nop, n),
+        Op::Sw2Hw(table) => sw2hw(read_owned(table, logs, n)),
+        Op::Hw2Sw(table) => hw2sw(read_owned(table, logs, n)),
+        Op::ResizeCq => resize(context::cq_number(logs, n)),
+        Op::QueryQp => query(context::qp_number(logs, n)),
+        Op::ModifyQp(edge) => modify(edge, context::qp_number(logs, n)),
+    }
+}
+
+// The command, or `Wrong` where op_modifier, in_modifier or index is wrong.
+pub fn read_command(op: Op, modifier: u8, n: u32, logs: Logs) -> CommandFound
+    ensures { λ r. ⌜ r ≡ commandOf logs op modifier n ⌝ }
+{
+    if modifier != op_modifier(op) {
+        return CommandFound::Wrong;
+    }
+    on_record(op, logs, n)
+}
+
+pub fn read_number(number: u32) -> NumberFound
+    ensures { λ r. ⌜ r ≡ numberOf number ⌝ }
+{
+    match number {
+        1 => NumberFound::Served(EngineNumber::ReadState),
+        2 => NumberFound::Served(EngineNumber::ReadNext),
+        3 => NumberFound::Served(EngineNumber::Write(Psn::NextSend)),
+        4 => NumberFound::Served(EngineNumber::Write(Psn::LastAcked)),
+        5 => NumberFound::Served(EngineNumber::Write(Psn::Expected)),
+        6 => NumberFound::Served(EngineNumber::ReadAll),
+        _ => NumberFound::NotServed,
+    }
+}
+
+fn read_state(code: u8) -> StateFound
+    ensures { λ r. ⌜ r ≡ stateFrom code ⌝ }
+{
+    match code {
+        0 => StateFound::State(State::Reset),
+        1 => StateFound::State(State::Init),
+        2 => StateFound::State(State::Rtr),
+        3 => StateFound::State(State::Rts),
+        4 => StateFound::State(State::Sqe),
+        5 => StateFound::State(State::Sqd),
+        6 => StateFound::State(State::Err),
+        _ => StateFound::OutOfRange,
+    }
+}
+
+fn engine_write(which: Psn, n: QpNumber, psn: u32, found: StateFound) -> EngineFound
+    ensures { λ r. ⌜ r ≡ engineWriteOf which n psn found ⌝ }
+{
+    if 0xffffff < psn {
+        return EngineFound::Wrong;
+    }
+    match found {
+        StateFound::State(s) => EngineFound::Asked(Engine::Write(which, n, psn, s)),
+        StateFound::OutOfRange => EngineFound::Wrong,
+    }
+}
+
+fn engine_on(number: EngineNumber, n: QpNumber, psn: u32, code: u8) -> EngineFound
+    ensures { λ r. ⌜ r ≡ engineOn number n psn code ⌝ }
+{
+    match number {
+        EngineNumber::ReadState => EngineFound::Asked(Engine::ReadState(n)),
+        EngineNumber::ReadNext => EngineFound::Asked(Engine::ReadNext(n)),
+        EngineNumber::ReadAll => EngineFound::Asked(Engine::ReadAll(n)),
+        EngineNumber::Write(which) => engine_write(which, n, psn, read_state(code)),
+    }
+}
+
+// The engine request, or `Wrong` where index, PSN or state is wrong. Reads do not look at PSN and
+// state.
+pub fn read_engine(number: EngineNumber, index: u32, psn: u32, code: u8, logs: Logs) -> EngineFound
+    ensures { λ r. ⌜ r ≡ engineOf logs number index psn code ⌝ }
+{
+    match context::qp_number(logs, index) {
+        QpFound::Number(n) => engine_on(number, n, psn, code),
+        QpFound::OutOfRange => EngineFound::Wrong,
+    }
+}
