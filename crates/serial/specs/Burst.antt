@@ -2,7 +2,7 @@
 -- The reason: what r writes no later request sees, and no earlier running request holds. So all that the invariant says of the
 -- others stays as it is when the store changes in what r writes alone.
 use mathlib.Core.Path.{_≡_, refl, sym, _∙_}
-use mathlib.Core.List.{List, [], _∷_, _++_}
+use mathlib.Core.List.{[], _∷_, _++_}
 use Rattle.serial.specs.Core.{Alike, Sys, Entry, refused, done, running, Store, Journal, play, Quiet, req, Passes, Clear, Good, Inv}
 
 module _ (S : Sys) where

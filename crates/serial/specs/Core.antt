@@ -1,5 +1,7 @@
--- Requests that hold their records from acceptance to the last burst are serial in the order of acceptance:
--- the system, the journal, the claim, and the invariant that carries it. Definitions only; the proofs are in Burst and Submit.
+-- Demand 3 of document 01 without the adapter: requests that hold their records from acceptance to the last burst are serial in
+-- the order of acceptance. Here are the system, the journal, the claim, and the invariant that gives it. That every call keeps the
+-- invariant is proved in Burst and Submit. Then Slots and Next come from a journal to a machine's calls, Ledger to lists of calls
+-- with initialisations and resets in them, and Plain to document 01's book.
 --
 -- A store gives every record its contents. The book does a request whole: `num` is its verdict, `ans` its answer, `eff` the
 -- records afterwards. A machine moves requests burst by burst, several under way at once.
@@ -7,6 +9,8 @@
 -- done with its answer, or running. Requests refused for any other reason are no part of it.
 -- The claim (`Claims`): the book, fed with the journal's done requests alone, in this order, accepts them, gives the same answers
 -- and the same records, and at its place in the journal gives each refused request the same verdict.
+-- The invariant (`Inv`) adds what is needed of the running requests: each was accepted at its own place in the journal, is still
+-- on the way to the book's result there, and every later request of the journal has passed its holds.
 use mathlib.Core.Path.{_≡_, subst}
 use mathlib.Core.List.{List, [], _∷_, _++_}
 
@@ -114,7 +118,7 @@ module _ (S : Sys) where
   Clear r [] = Unit {0}
   Clear r (e ∷ J) = Passes r (req e) × Clear r J
 
-  -- r passes the holds of every unfinished request of the journal
+  -- q passes the holds of every unfinished request of the journal
   abbrev pub Passed : Journal → Req → Type 0
   Passed [] q = Unit {0}
   Passed (refused r n ∷ J) q = Passed J q

@@ -9,3 +9,6 @@ pub mod Ledger
 pub mod Plain
 pub mod Freer
 pub mod Finishing
+pub mod AnyOrder
+pub mod Example
+pub mod ExampleRun

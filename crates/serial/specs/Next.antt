@@ -4,7 +4,7 @@ use mathlib.Core.Path.{_≡_, refl, sym, _∙_, ap, ap₂, subst, subst₂, fun-
 use mathlib.Core.List.{List, [], _∷_, _++_, append-nil}
 use Prim.Native.Nat.{ℕ}
 use native.Mathlib.Decide.{ℕ-discrete}
-use Rattle.serial.specs.Core.{Sys, Entry, running, Store, Inv, Claims, claims}
+use Rattle.serial.specs.Core.{Sys, Store, Inv, Claims, claims}
 use Rattle.serial.specs.Burst.{step-inv, last-inv}
 use Rattle.serial.specs.Submit.{refuse-inv, accept-inv, instant-inv}
 use Rattle.serial.specs.Order.{Done}

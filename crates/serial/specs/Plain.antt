@@ -1,8 +1,8 @@
--- From the system's book to a plain book of another make, and the claim in that book's words.
+-- From the system's book to a plain book of another make, and the claim for that book.
 --
--- The system's book speaks the machine's language: its requests are what a slot holds, its records what the machine shows. The
--- plain book has a state of its own (`Book`) and may be fed with less: a slot's request may name records that submission read
--- from other records, where the book is given the arguments alone (`asks`) and finds the names itself.
+-- The requests of the system's book are what a slot holds, and its records are what the machine shows. The plain book has a state
+-- of its own (`Book`) and may be fed with less: a slot's request may name records that submission found named in other records,
+-- where the plain book is given the arguments alone (`asks`) and finds the names itself.
 use mathlib.Core.Path.{_≡_, sym, _∙_, ap, subst}
 use mathlib.Core.List.{List, [], _∷_, _++_}
 use Rattle.serial.specs.Core.{Sys, Store, Journal, refused, play, Plays, plays-left, plays-right, Quiet, Inv, good-plays}

@@ -110,8 +110,7 @@ module _ (S : Sys) where
         → Event v u (at-once r a) (record { what = r; gave = a } ∷ [])
     -- a burst of slot k that is not its last: nothing changes but what r writes, and wherever r began, it is still under way
     step : (r : Req) (k : ℕ) (p p′ : Prog) (was : v .slot k ≡ runs r p) (is : u .slot k ≡ runs r p′) (others : But k v u)
-        (frame : Elsewhere S r (v .look) (u .look))
-        (under-way : (t : Store S) → Mid r p t (v .look) → Mid r p′ t (u .look))
+        (frame : Elsewhere S r (v .look) (u .look)) (under-way : (t : Store S) → Mid r p t (v .look) → Mid r p′ t (u .look))
         → Event v u nothing []
     -- the last burst: wherever r began, the answer and what r writes are now the book's
     last : (r : Req) (k : ℕ) (p : Prog) (a : Ans) (was : v .slot k ≡ runs r p) (is : u .slot k ≡ ended r a) (others : But k v u)

@@ -3,7 +3,7 @@
 -- The reason: a request that passed all holds sees no record that a running request writes. All that it sees is the book's
 -- already, so its verdict and its answer in the real store are those in the book's.
 use mathlib.Core.Path.{_≡_, refl, sym, _∙_, ap}
-use mathlib.Core.List.{List, [], _∷_, _++_}
+use mathlib.Core.List.{[], _∷_, _++_}
 use Rattle.serial.specs.Core.{Alike, Sys, Entry, refused, done, running, Store, Journal, play, Quiet, req, Passes, Passed, Clear, Good, Inv}
 use Rattle.serial.specs.Burst.{Elsewhere}
 
