@@ -1,0 +1,14 @@
+pub mod Core
+pub mod Burst
+pub mod Submit
+pub mod Order
+pub mod Slots
+pub mod Items
+pub mod Next
+pub mod Ledger
+pub mod Plain
+pub mod Freer
+pub mod Finishing
+pub mod AnyOrder
+pub mod Example
+pub mod ExampleRun

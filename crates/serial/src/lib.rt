@@ -1,0 +1,1 @@
+// No code: the crate is its specs. Requests that hold their records until their last burst are serial.
