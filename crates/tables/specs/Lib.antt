@@ -1,0 +1,4 @@
+-- The request table of document 01.
+pub mod Records
+pub mod Mailboxes
+pub mod Bursts
