@@ -1,6 +1,9 @@
 -- The burst table: which bursts of its record a request moves, in ascending order.
+use mathlib.Core.Path.{_≡_, sym, _∙_, ap}
 use mathlib.Core.List.{List, [], _∷_}
-use Prim.Native.Nat.{ℕ, zero, suc, _*_, _/_}
+use Prim.Native.Nat.{ℕ, zero, suc, _+_, _*_, _/_, _<_}
+use native.Mathlib.Nat.{add-zero, zero-add, suc-add, add-suc}
+use native.Mathlib.Omega.{arith}
 use lib.ListN.{length, getD}
 use Rattle.requests.specs.declared.Command.{Command}
 use Rattle.requests.specs.declared.Command.the-variants as command
@@ -73,3 +76,22 @@ commandOffset c m = getD (commandBursts c) m 0 * burstSize
 abbrev pub offsetOf : Request → ℕ → ℕ
 offsetOf (request.Command c) m = commandOffset c m
 offsetOf (request.Engine e) m = engineOffset e m
+
+-- burst m of n bursts from the s-th on
+pub at-burst : (s n m : ℕ) → m < n → getD (burstsFrom s n) m 0 ≡ s + m
+at-burst s zero m h = absurd (omega arith)
+at-burst s (suc n) zero h = sym (add-zero s)
+at-burst s (suc n) (suc m) h = at-burst (suc s) n m (omega arith) ∙ suc-add s m ∙ sym (add-suc s m)
+
+-- all bursts of a record: burst m starts at 16 m
+pub whole-offset : (n m : ℕ) → m < n → m * burstSize ≡ getD (burstsFrom 0 n) m 0 * burstSize
+whole-offset n m h = ap (λ (k : ℕ). k * burstSize) (sym (at-burst 0 n m h ∙ zero-add m))
+
+pub psn-first : (p : Psn) (m : ℕ) → m ≡ 0 → 0 ≡ psnOffset p m
+psn-first p m e = rw e
+
+pub psn-second : (p : Psn) (m : ℕ) → m < 2 → (m ≡ 0 → ⊥) → psnPlace p / 16 * 16 ≡ psnOffset p m
+psn-second p m h n = let e : m ≡ 1 = omega arith in rw e
+
+pub read-offset : (m : ℕ) → m < 1 → 0 ≡ getD (0 ∷ []) m 0 * burstSize
+read-offset m h = let e : m ≡ 0 = omega arith in rw e

@@ -1,34 +1,25 @@
+-- `tables::offset` meets its contract.
 use borrow.Author.Needs.{needs}
 use Rattle.tables.proofs.offset.Statement.{statement}
 use Rattle.tables.proofs.offset.Tie as tie
-use Rattle.tables.proofs.offset.Reads as reads
-use Rattle.tables.proofs.offset.Lts as lts
-use Rattle.tables.proofs.command_offset.Reads as command-offset-reads
-use Rattle.tables.proofs.engine_offset.Reads as engine-offset-reads
 
--- src/lib.rt:276:26
 enum-known-request : tie.Need-enum-known-request
 enum-known-request c = search needs
 
--- src/lib.rt:276:38
 command-offset-requires : tie.Need-command-offset-requires
-command-offset-requires c κs = ?
+command-offset-requires c κs = rw (c .before .request .given .1) at (c .before .before .before .pre)
 
--- src/lib.rt:277:25
 enum-known-request-2 : tie.Need-enum-known-request-2
 enum-known-request-2 c = search needs
 
--- src/lib.rt:277:36
 engine-offset-requires : tie.Need-engine-offset-requires
-engine-offset-requires c κs = ?
+engine-offset-requires c κs = rw (c .before .request2 .given .1) at (c .before .before .before .pre)
 
--- src/lib.rt:271:1
 returns : tie.Need-returns
-returns c = ?
+returns c = rw (c .before .before .request .given .1) (c .command-offset .ensures)
 
--- src/lib.rt:271:1
 returns-2 : tie.Need-returns-2
-returns-2 c = ?
+returns-2 c = rw (c .before .before .request2 .given .1) (c .engine-offset .ensures)
 
 pub offset-spec : {M : Type 1} → statement M
 offset-spec =
