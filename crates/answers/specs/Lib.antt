@@ -1,0 +1,2 @@
+-- The answer that collecting a request writes.
+pub mod Answers

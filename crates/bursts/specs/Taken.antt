@@ -1,0 +1,39 @@
+-- Which words of the image each edge takes.
+use mathlib.Core.Bool.{Bool, true, false}
+use Prim.Native.Nat.{ℕ, _*_, _/_}
+use lib.Dec.{eqb}
+use Rattle.words.specs.Choice.{either, within}
+use Rattle.edges.specs.declared.Edge.{Edge}
+use Rattle.edges.specs.declared.Edge.the-variants.{ResetToInit, InitToInit, InitToRtr, RtrToRts, RtsToRts, SqeToRts, RtsToSqd, SqdToSqd, SqdToRts, ToErr, ToReset}
+
+-- The table of edges, column "Words taken": the test is asked of a word's offset.
+abbrev pub takes : Edge → ℕ → Bool
+takes ResetToInit w = within 0x00 0xa0 w
+takes InitToInit w = within 0x04 0x4c w
+takes InitToRtr w = either (within 0x04 0x4c w) (eqb w 0x84)
+takes RtrToRts w = either (within 0x20 0x28 w) (either (eqb w 0x6c) (eqb w 0x7c))
+takes RtsToRts w = within 0x20 0x28 w
+takes SqeToRts w = eqb w 0x98
+takes RtsToSqd w = false
+takes SqdToSqd w = either (within 0x20 0x4c w) (eqb w 0x98)
+takes SqdToRts w = either (within 0x20 0x4c w) (eqb w 0x98)
+takes ToErr w = false
+takes ToReset w = false
+
+-- the offset of the word that holds byte i
+abbrev pub wordOf : ℕ → ℕ
+wordOf i = i / 4 * 4
+
+-- "all 256 bytes zero"
+abbrev pub zeroes : Edge → Bool
+zeroes ResetToInit = false
+zeroes InitToInit = false
+zeroes InitToRtr = false
+zeroes RtrToRts = false
+zeroes RtsToRts = false
+zeroes SqeToRts = false
+zeroes RtsToSqd = false
+zeroes SqdToSqd = false
+zeroes SqdToRts = false
+zeroes ToErr = false
+zeroes ToReset = true

@@ -1,0 +1,31 @@
+-- The fields of a record that a decision is made by.
+use mathlib.Core.Path.{_≡_, refl, sym, _∙_, ap}
+use mathlib.Core.Bool.{Bool}
+use mathlib.Core.List.{List, [], _∷_}
+use Prim.Native.Nat.{ℕ, _+_, _*_, _/_, _%_, _≤_}
+use native.Mathlib.Omega.{arith}
+use lib.Dec.{eqb}
+use lib.ListN.{length, getD}
+use Rattle.words.specs.Words.{bits, AreBytes, leValue, be32}
+use Rattle.words.specs.Leaves.{le-four, be32-is}
+
+-- "word 00h has the state in 31:28 and the service type in 23:16": words are big-endian, so these are the top half of byte
+-- 0 and the whole of byte 1
+unfoldable pub stateOf : List ℕ → ℕ
+stateOf r = getD r 0 0 / 16
+
+unfoldable pub serviceOf : List ℕ → ℕ
+serviceOf r = getD r 1 0
+
+-- "byte 63 is 1 while the hardware owns the record"; "Any other byte 63 reads as software's."
+unfoldable pub isHardware : List ℕ → Bool
+isHardware r = eqb (getD r 63 0) 1
+
+-- of bytes, they are the bits of word 00h that 01 names
+pub state-bits : (r : List ℕ) → AreBytes r → 4 ≤ length r → bits 31 28 (be32 0 r) ≡ stateOf r
+unfolding bits stateOf
+state-bits r a h = rw (← be32-is 0 r h, le-four) (omega (arith, a 0, a 1, a 2, a 3))
+
+pub service-bits : (r : List ℕ) → AreBytes r → 4 ≤ length r → bits 23 16 (be32 0 r) ≡ serviceOf r
+unfolding bits serviceOf
+service-bits r a h = rw (← be32-is 0 r h, le-four) (omega (arith, a 0, a 1, a 2, a 3))
