@@ -1,0 +1,11 @@
+use Rattle.hcr.proofs.event_of.Statement.{statement}
+use Rattle.hcr.proofs.event_of.Tie as tie
+use Rattle.hcr.proofs.event_of.Reads as reads
+use Rattle.hcr.proofs.event_of.Lts as lts
+
+-- src/lib.rt:53:1
+returns : tie.Need-returns
+returns c = ?
+
+pub event-of-spec : {M : Type 1} → statement M
+event-of-spec = tie.close (tie.spec returns)

@@ -1,0 +1,11 @@
+use Rattle.hcr.proofs.join_param.Statement.{statement}
+use Rattle.hcr.proofs.join_param.Tie as tie
+use Rattle.hcr.proofs.join_param.Reads as reads
+use Rattle.hcr.proofs.join_param.Lts as lts
+
+-- src/lib.rt:106:1
+returns : tie.Need-returns
+returns c = ?
+
+pub join-param-spec : {M : Type 1} → statement M
+join-param-spec = tie.close (tie.spec returns)

@@ -1,0 +1,15 @@
+use Rattle.hcr.proofs.low_of.Statement.{statement}
+use Rattle.hcr.proofs.low_of.Tie as tie
+use Rattle.hcr.proofs.low_of.Reads as reads
+use Rattle.hcr.proofs.low_of.Lts as lts
+
+-- src/lib.rt:121:5
+cast-result : tie.Need-cast-result
+cast-result c = ?
+
+-- src/lib.rt:118:1
+returns : tie.Need-returns
+returns c = ?
+
+pub low-of-spec : {M : Type 1} → statement M
+low-of-spec = tie.close (tie.spec cast-result returns)

@@ -1,0 +1,11 @@
+use Rattle.hcr.proofs.reserved_of.Statement.{statement}
+use Rattle.hcr.proofs.reserved_of.Tie as tie
+use Rattle.hcr.proofs.reserved_of.Reads as reads
+use Rattle.hcr.proofs.reserved_of.Lts as lts
+
+-- src/lib.rt:59:1
+returns : tie.Need-returns
+returns c = ?
+
+pub reserved-of-spec : {M : Type 1} → statement M
+reserved-of-spec = tie.close (tie.spec returns)

@@ -1,0 +1,15 @@
+use Rattle.hcr.proofs.token_of.Statement.{statement}
+use Rattle.hcr.proofs.token_of.Tie as tie
+use Rattle.hcr.proofs.token_of.Reads as reads
+use Rattle.hcr.proofs.token_of.Lts as lts
+
+-- src/lib.rt:81:5
+cast-result : tie.Need-cast-result
+cast-result c = ?
+
+-- src/lib.rt:78:1
+returns : tie.Need-returns
+returns c = ?
+
+pub token-of-spec : {M : Type 1} → statement M
+token-of-spec = tie.close (tie.spec cast-result returns)
