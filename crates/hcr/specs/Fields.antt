@@ -4,11 +4,12 @@ use mathlib.Core.Bool.{Bool, true, false}
 use Prim.Native.Nat.{ℕ, zero, suc, _+_, _-_, _*_, _/_, _%_, _^_, _≤_, _<_}
 use native.Mathlib.Nat.{mod-eq-of-lt, mod-lt}
 use native.Mathlib.Omega.{arith}
+use borrow.Author.Tests.{eq-eqb, ne-eqb}
 use lib.Bits.{bitAnd, bitOr, and-mask, or-shifted-r}
 use lib.Dec.{eqb, lit<}
 use lib.Pow.{split, shr-shr}
 use Rattle.words.specs.Words.{bits}
-use Rattle.hcr.specs.Register.{bit, word18}
+use Rattle.hcr.specs.Register.{bit, wellFormed18, word18}
 
 -- A field taken out: shifted to the right end, then masked.
 pub masked : (hi lo w : ℕ) → bitAnd (w / 2 ^ lo) (2 ^ (hi - lo + 1) - 1) ≡ bits hi lo w
@@ -55,6 +56,23 @@ pub tested-bit : (x : ℕ) → x < 2 → bit (eqb x 1) ≡ x
 tested-bit zero h = refl
 tested-bit (suc zero) h = refl
 tested-bit (suc (suc x)) h = absurd (omega arith)
+
+-- A test of a number that a call answered: r is its answer, and n what its contract says that it is.
+pub told-is : (r n k : ℕ) → r ≡ n → r ≡ k → eqb n k ≡ true
+told-is r n k p q = eq-eqb n k (sym p ∙ q)
+
+pub told-not : (r n k : ℕ) → r ≡ n → (r ≡ k → ⊥) → eqb n k ≡ false
+told-not r n k p q = ne-eqb n k (λ e. q (p ∙ e))
+
+pub told-test : (r n k : ℕ) → r ≡ n → eqb r k ≡ eqb n k
+told-test r n k p = ap (λ (x : ℕ). eqb x k) p
+
+-- The same of two words that were read: w is the word that the caller has, v the one that the reader's contract says it is.
+pub told-formed : (r t : Bool) (w v : ℕ) → r ≡ wellFormed18 w → w ≡ v → r ≡ t → wellFormed18 v ≡ t
+told-formed r t w v p q e = ap wellFormed18 (sym q) ∙ sym p ∙ e
+
+pub told-below : (r w v : ℕ) → r ≡ bits 15 0 w → w ≡ v → eqb r 0 ≡ eqb (bits 15 0 v) 0
+told-below r w v p q = told-test r (bits 15 0 v) 0 (p ∙ ap (bits 15 0) q)
 
 -- Word 18h as the code joins it: op, op_modifier, E and go.
 pub joined18 : (o m b : ℕ) (e : Bool) → b ≡ bit e → o ≤ 0xfff → m < 2 ^ 8

@@ -2,4 +2,5 @@
 pub mod Register
 pub mod Fields
 pub mod WordList
+pub mod Writing
 pub mod RoundTrip

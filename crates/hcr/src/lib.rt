@@ -87,6 +87,13 @@ fn below_token_of(w: u32) -> u32
     w & 0xffff
 }
 
+// Word 14h of a command.
+fn join_14(token: u16) -> u32
+    ensures { λ r. ⌜ r ≡ token * 2 ^ 16 ⌝ }
+{
+    (token as u32) << 16
+}
+
 fn bit_of(b: bool) -> u32
     ensures { λ r. ⌜ r ≡ bit b ⌝ }
 {
@@ -193,7 +200,7 @@ fn write_words(hcr: &mut [u8], c: HcrCommand)
     write_param(hcr, 0x00, c.in_param);
     words::write_le32(hcr, 0x08, c.in_modifier);
     write_param(hcr, 0x0c, c.out_param);
-    words::write_le32(hcr, 0x14, (c.token as u32) << 16);
+    words::write_le32(hcr, 0x14, join_14(c.token));
     words::write_le32(hcr, 0x18, join_18(c.event, c.op_modifier, c.op));
 }
 

@@ -1,3 +1,4 @@
+use Rattle.hcr.specs.Register.{commandOf}
 use borrow.Author.Needs.{needs}
 use Rattle.hcr.proofs.command_of.Statement.{statement}
 use Rattle.hcr.proofs.command_of.Tie as tie
@@ -48,7 +49,8 @@ op-of-requires c κs = search needs
 
 -- src/lib.rt:153:1
 returns : tie.Need-returns
-returns c = ?
+unfolding commandOf
+returns c = cc
 
 pub command-of-spec : {M : Type 1} → statement M
 command-of-spec =

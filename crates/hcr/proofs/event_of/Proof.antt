@@ -1,3 +1,4 @@
+use Rattle.hcr.specs.Fields.{masked}
 use Rattle.hcr.proofs.event_of.Statement.{statement}
 use Rattle.hcr.proofs.event_of.Tie as tie
 use Rattle.hcr.proofs.event_of.Reads as reads
@@ -5,7 +6,7 @@ use Rattle.hcr.proofs.event_of.Lts as lts
 
 -- src/lib.rt:53:1
 returns : tie.Need-returns
-returns c = ?
+returns c = masked 22 22 _
 
 pub event-of-spec : {M : Type 1} → statement M
 event-of-spec = tie.close (tie.spec returns)

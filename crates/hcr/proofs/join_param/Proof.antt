@@ -1,3 +1,5 @@
+use borrow.Author.Needs.{needs}
+use Rattle.hcr.specs.Fields.{joins}
 use Rattle.hcr.proofs.join_param.Statement.{statement}
 use Rattle.hcr.proofs.join_param.Tie as tie
 use Rattle.hcr.proofs.join_param.Reads as reads
@@ -5,7 +7,7 @@ use Rattle.hcr.proofs.join_param.Lts as lts
 
 -- src/lib.rt:106:1
 returns : tie.Need-returns
-returns c = ?
+returns c = joins 32 64 _ _ (search needs) (search needs)
 
 pub join-param-spec : {M : Type 1} → statement M
 join-param-spec = tie.close (tie.spec returns)

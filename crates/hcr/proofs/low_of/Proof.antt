@@ -1,3 +1,5 @@
+use native.Mathlib.Omega.{arith}
+use lib.Bits.{and-mask, mask-lt}
 use Rattle.hcr.proofs.low_of.Statement.{statement}
 use Rattle.hcr.proofs.low_of.Tie as tie
 use Rattle.hcr.proofs.low_of.Reads as reads
@@ -5,11 +7,11 @@ use Rattle.hcr.proofs.low_of.Lts as lts
 
 -- src/lib.rt:121:5
 cast-result : tie.Need-cast-result
-cast-result c = ?
+cast-result c = omega (arith, mask-lt (c .args .v) 32)
 
 -- src/lib.rt:118:1
 returns : tie.Need-returns
-returns c = ?
+returns c = and-mask _ 32
 
 pub low-of-spec : {M : Type 1} → statement M
 low-of-spec = tie.close (tie.spec cast-result returns)

@@ -1,3 +1,6 @@
+use borrow.Author.Tests.{not-true, not-false}
+use Rattle.words.specs.Choice.{cases}
+use Rattle.hcr.specs.Register.{readOf}
 use borrow.Author.Needs.{needs}
 use Rattle.hcr.proofs.read.Statement.{statement}
 use Rattle.hcr.proofs.read.Tie as tie
@@ -8,7 +11,8 @@ use Rattle.hcr.proofs.well_formed.Reads as well-formed-reads
 
 -- src/lib.rt:174:9
 returns : tie.Need-returns
-returns c = ?
+unfolding readOf
+returns c = search (cases, not-true, not-false)
 
 -- src/lib.rt:176:9
 well-formed-requires : tie.Need-well-formed-requires
@@ -16,7 +20,8 @@ well-formed-requires c κs = search needs
 
 -- src/lib.rt:177:9
 returns-2 : tie.Need-returns-2
-returns-2 c = ?
+unfolding readOf
+returns-2 c = search (cases, not-true, not-false)
 
 -- src/lib.rt:179:25
 command-of-requires : tie.Need-command-of-requires
@@ -24,7 +29,8 @@ command-of-requires c κs = search needs
 
 -- src/lib.rt:170:1
 returns-3 : tie.Need-returns-3
-returns-3 c = ?
+unfolding readOf
+returns-3 c = search (cases, not-true, not-false)
 
 pub read-spec : {M : Type 1} → statement M
 read-spec =

@@ -1,3 +1,5 @@
+use mathlib.Core.Path.{_∙_}
+use Rattle.hcr.specs.Register.{paramAt}
 use borrow.Author.Needs.{needs}
 use Rattle.hcr.proofs.read_param.Statement.{statement}
 use Rattle.hcr.proofs.read_param.Tie as tie
@@ -24,7 +26,8 @@ join-param-requires c κs = search needs
 
 -- src/lib.rt:124:1
 returns : tie.Need-returns
-returns c = ?
+unfolding paramAt
+returns c = c .join-param .ensures ∙ cc
 
 pub read-param-spec : {M : Type 1} → statement M
 read-param-spec =

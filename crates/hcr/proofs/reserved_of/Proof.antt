@@ -1,3 +1,4 @@
+use Rattle.hcr.specs.Fields.{masked}
 use Rattle.hcr.proofs.reserved_of.Statement.{statement}
 use Rattle.hcr.proofs.reserved_of.Tie as tie
 use Rattle.hcr.proofs.reserved_of.Reads as reads
@@ -5,7 +6,7 @@ use Rattle.hcr.proofs.reserved_of.Lts as lts
 
 -- src/lib.rt:59:1
 returns : tie.Need-returns
-returns c = ?
+returns c = masked 21 20 _
 
 pub reserved-of-spec : {M : Type 1} → statement M
 reserved-of-spec = tie.close (tie.spec returns)

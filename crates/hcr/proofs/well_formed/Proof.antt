@@ -1,3 +1,7 @@
+use Rattle.hcr.specs.Fields.{told-formed, told-below}
+use borrow.Author.Tests.{not-true, not-false}
+use Rattle.words.specs.Choice.{cases}
+use Rattle.hcr.specs.Register.{wellFormed}
 use borrow.Author.Needs.{needs}
 use Rattle.hcr.proofs.well_formed.Statement.{statement}
 use Rattle.hcr.proofs.well_formed.Tie as tie
@@ -17,7 +21,8 @@ well-formed-18-requires c κs = search needs
 
 -- src/lib.rt:148:9
 returns : tie.Need-returns
-returns c = ?
+unfolding wellFormed
+returns c = search (cases, not-true, told-formed)
 
 -- src/lib.rt:150:20
 read-le32-requires-2 : tie.Need-read-le32-requires-2
@@ -29,7 +34,8 @@ below-token-of-requires c κs = search needs
 
 -- src/lib.rt:143:1
 returns-2 : tie.Need-returns-2
-returns-2 c = ?
+unfolding wellFormed
+returns-2 c = search (cases, not-false, told-formed, told-below)
 
 pub well-formed-spec : {M : Type 1} → statement M
 well-formed-spec =

@@ -1,3 +1,6 @@
+use Rattle.words.specs.Choice.{cases}
+use Rattle.hcr.specs.Register.{wellFormed18}
+use Rattle.hcr.specs.Fields.{told-is, told-not, told-test}
 use borrow.Author.Needs.{needs}
 use Rattle.hcr.proofs.well_formed_18.Statement.{statement}
 use Rattle.hcr.proofs.well_formed_18.Tie as tie
@@ -13,7 +16,8 @@ go-of-requires c κs = search needs
 
 -- src/lib.rt:135:9
 returns : tie.Need-returns
-returns c = ?
+unfolding wellFormed18
+returns c = search (cases, told-is, told-not, told-test)
 
 -- src/lib.rt:137:8
 status-of-requires : tie.Need-status-of-requires
@@ -21,7 +25,8 @@ status-of-requires c κs = search needs
 
 -- src/lib.rt:138:9
 returns-2 : tie.Need-returns-2
-returns-2 c = ?
+unfolding wellFormed18
+returns-2 c = search (cases, told-is, told-not, told-test)
 
 -- src/lib.rt:140:5
 reserved-of-requires : tie.Need-reserved-of-requires
@@ -29,7 +34,8 @@ reserved-of-requires c κs = search needs
 
 -- src/lib.rt:131:1
 returns-3 : tie.Need-returns-3
-returns-3 c = ?
+unfolding wellFormed18
+returns-3 c = search (cases, told-is, told-not, told-test)
 
 pub well-formed-18-spec : {M : Type 1} → statement M
 well-formed-18-spec =

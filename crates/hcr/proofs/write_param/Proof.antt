@@ -1,3 +1,4 @@
+use Rattle.hcr.specs.Writing.{two-words}
 use borrow.Author.Needs.{needs}
 use Rattle.hcr.proofs.write_param.Statement.{statement}
 use Rattle.hcr.proofs.write_param.Tie as tie
@@ -33,7 +34,7 @@ same-length c = search needs
 
 -- src/lib.rt:182:1
 returns : tie.Need-returns
-returns c = ?
+returns c = search (needs, two-words)
 
 pub write-param-spec : {M : Type 1} → statement M
 write-param-spec =
