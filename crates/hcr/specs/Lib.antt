@@ -3,4 +3,5 @@ pub mod Register
 pub mod Fields
 pub mod WordList
 pub mod Writing
+pub mod Within
 pub mod RoundTrip

@@ -42,9 +42,13 @@ wellFormed18 w = both (eqb (bits 23 23 w) 1) (both (eqb (bits 31 24 w) 0) (eqb (
 unfoldable pub wellFormed : List ℕ → Bool
 wellFormed h = both (wellFormed18 (le32 0x18 h)) (eqb (bits 15 0 (le32 0x14 h)) 0)
 
--- "Reading and writing need 28 bytes and touch only the first 28." "The register's reader gives E as it finds it."
+-- The rows of document 01's table that reading can meet, top to bottom, with what is given at each: "HCR below 28", "HCR not well formed".
+unfoldable pub readRows : {A : Type 0} → List ℕ → A → A → A → A
+readRows h short malformed command = pick (ltb (length h) 28) short (pick (wellFormed h) command malformed)
+
+-- "The register's reader gives E as it finds it; only submission refuses E."
 unfoldable pub readOf : List ℕ → ReadAnswer
-readOf h = pick (ltb (length h) 28) reads.Short (pick (wellFormed h) (reads.Command (commandOf h)) reads.Malformed)
+readOf h = readRows h reads.Short reads.Malformed (reads.Command (commandOf h))
 
 -- Word 18h of a command, by the places in the same layout: go is 1, status and bits 21:20 are 0.
 unfoldable pub word18 : Bool → ℕ → ℕ → ℕ
@@ -71,26 +75,29 @@ wordsOf c =
 unfoldable pub registerOf : HcrCommand → List ℕ
 registerOf c = leWords (wordsOf c)
 
--- "An op above 0xfff can't be written: refusal 3." "HCR below 28" comes before it in the table.
-unfoldable pub writeOf : HcrCommand → List ℕ → WriteAnswer
-writeOf c h = pick (ltb (length h) 28) writes.Short (pick (ltb 0xfff (c .op)) writes.BadOp writes.Done)
+-- The rows that writing can meet: "HCR below 28", "op above 0xfff in writing".
+unfoldable pub writeRows : {A : Type 0} → HcrCommand → List ℕ → A → A → A → A
+writeRows c h short bad-op done = pick (ltb (length h) 28) short (pick (ltb 0xfff (c .op)) bad-op done)
 
--- What the lent bytes hold after an answer: "Every refusal returns its number alone and leaves everything."
-unfoldable pub leaves : WriteAnswer → HcrCommand → List ℕ → List ℕ
-leaves writes.Done c h = splice 0 (registerOf c) h
-leaves writes.Short c h = h
-leaves writes.BadOp c h = h
+unfoldable pub writeOf : HcrCommand → List ℕ → WriteAnswer
+writeOf c h = writeRows c h writes.Short writes.BadOp writes.Done
+
+-- What the lent bytes hold after an answer: the command in the first 28; "Every refusal returns its number alone and leaves everything."
+unfoldable pub bytesAfter : WriteAnswer → HcrCommand → List ℕ → List ℕ
+bytesAfter writes.Done c h = splice 0 (registerOf c) h
+bytesAfter writes.Short c h = h
+bytesAfter writes.BadOp c h = h
 
 unfoldable pub writtenOf : HcrCommand → List ℕ → List ℕ
-writtenOf c h = leaves (writeOf c h) c h
+writtenOf c h = bytesAfter (writeOf c h) c h
 
--- The numbers of document 01's table: "0 means done or accepted"; "0x83 .. HCR below 28"; "3 HCR not well formed, op above 0xfff in writing".
+-- Document 01's number for each answer: "0 means done or accepted".
 abbrev pub readNumber : ReadAnswer → ℕ
 readNumber (reads.Command c) = 0
 readNumber reads.Short = 0x83
 readNumber reads.Malformed = 3
 
-abbrev pub writeNumber : WriteAnswer → ℕ
-writeNumber writes.Done = 0
-writeNumber writes.Short = 0x83
-writeNumber writes.BadOp = 3
+abbrev pub writtenNumber : WriteAnswer → ℕ
+writtenNumber writes.Done = 0
+writtenNumber writes.Short = 0x83
+writtenNumber writes.BadOp = 3

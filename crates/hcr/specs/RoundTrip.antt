@@ -14,9 +14,10 @@ use Rattle.words.specs.Words.{bits, AreBytes, le32, leBytes, le-back}
 use Rattle.hcr.specs.declared.HcrCommand.{HcrCommand}
 use Rattle.hcr.specs.declared.ReadAnswer.the-variants as reads
 use Rattle.hcr.specs.declared.WriteAnswer.the-variants as writes
-use Rattle.hcr.specs.Register.{bit, paramAt, commandOf, wellFormed18, wellFormed, readOf, word18, wordsOf, registerOf, writeOf, leaves, writtenOf}
+use Rattle.hcr.specs.Register.{bit, paramAt, commandOf, wellFormed18, wellFormed, readRows, readOf, word18, wordsOf, registerOf, writeOf, writtenOf}
 use Rattle.hcr.specs.Fields.{bit-small, bit-tested, tested-bit, bit-lt, above}
-use Rattle.hcr.specs.WordList.{length-leWords, word-read, wordsAt, le32-small, words-back}
+use Rattle.hcr.specs.Writing.{answers-done}
+use Rattle.hcr.specs.WordList.{length-registerOf, word-read, wordsAt, le32-small, words-back}
 
 -- Every field's value is one of its type.
 pub record Fits (c : HcrCommand) : Type 0 where
@@ -135,36 +136,30 @@ module _ (c : HcrCommand) (h : List ℕ) (fits : Fits c) (low : c .op ≤ 0xfff)
       both-yes _ _ (ap wellFormed18 word-18 ∙ formed-back (c .event) (c .«op_modifier») (c .op) (fits .op-modifier) low)
       (eq-eqb _ _ (ap (bits 15 0) word-14 ∙ below-token-back (c .token)))
 
--- A list that is long enough is not refused for its length, and an op that the register holds is not refused.
-pub accepted : (c : HcrCommand) (h : List ℕ) → c .op ≤ 0xfff → 28 ≤ length h → writeOf c h ≡ writes.Done
-unfolding writeOf
-accepted c h p q = sym (pick-no _ _ _ _ (le-ltb _ _ q) (pick-no _ _ _ _ (le-ltb _ _ p) refl))
-
-pub accepted-writes : (c : HcrCommand) (h : List ℕ) → c .op ≤ 0xfff → 28 ≤ length h → writtenOf c h ≡ splice 0 (registerOf c) h
-unfolding writtenOf leaves
-accepted-writes c h p q = rw (accepted c h p q)
+-- What the table's rows leave.
+pub accepted : (c : HcrCommand) (h : List ℕ) → 28 ≤ length h → c .op ≤ 0xfff → (writeOf c h ≡ writes.Done) × (writtenOf c h ≡ splice 0 (registerOf c) h)
+accepted c h p q =
+    let a = answers-done c h (splice 0 (registerOf c) h) p q refl in
+    (sym (a .0), sym (a .2))
 
 pub read-formed : (h : List ℕ) → 28 ≤ length h → wellFormed h ≡ true → readOf h ≡ reads.Command (commandOf h)
-unfolding readOf
-read-formed h p f = sym (pick-no _ _ _ _ (le-ltb _ _ p) (pick-yes _ _ _ _ f refl))
-
-length-registerOf : (c : HcrCommand) → length (registerOf c) ≡ 28
-unfolding registerOf wordsOf
-length-registerOf c = length-leWords (wordsOf c)
+unfolding readRows readOf
+read-formed h p f = rw (le-ltb (length h) 28 p, f)
 
 -- "Writing a command and reading it gives the command".
 pub write-read : (c : HcrCommand) (h : List ℕ) → Fits c → c .op ≤ 0xfff → 28 ≤ length h → (writeOf c h ≡ writes.Done) × (readOf (writtenOf c h) ≡ reads.Command c)
 write-read c h fits low long =
-    (accepted c h low long, ap readOf (accepted-writes c h low long) ∙ read-formed (splice 0 (registerOf c) h) still (formed c h fits low) ∙ ap reads.Command (command-back c h fits low))
+    let a = accepted c h long low in
+    (a .0, ap readOf (a .1) ∙ read-formed (splice 0 (registerOf c) h) still (formed c h fits low) ∙ ap reads.Command (command-back c h fits low))
   where
     still : 28 ≤ length (splice 0 (registerOf c) h)
     still = omega (arith, length-splice 0 (registerOf c) h (omega (arith, length-registerOf c)))
 
 -- Word 18h, well formed, is put together again from its fields: x is the word above each of them.
-weave : (w x12 x20 x22 x23 x24 x32 status go e reserved m o : ℕ)
+from-fields : (w x12 x20 x22 x23 x24 x32 status go e reserved m o : ℕ)
     → w ≡ x12 * 2 ^ 12 + o → x12 ≡ x20 * 2 ^ 8 + m → x20 ≡ x22 * 2 ^ 2 + reserved → x22 ≡ x23 * 2 + e → x23 ≡ x24 * 2 + go → x24 ≡ x32 * 2 ^ 8 + status
     → x32 ≡ 0 → status ≡ 0 → go ≡ 1 → reserved ≡ 0 → 1 * 2 ^ 23 + e * 2 ^ 22 + m * 2 ^ 12 + o ≡ w
-weave w x12 x20 x22 x23 x24 x32 status go e reserved m o e₀ e₁₂ e₂₀ e₂₂ e₂₃ e₂₄ e₃₂ p q r = omega arith
+from-fields w x12 x20 x22 x23 x24 x32 status go e reserved m o e₀ e₁₂ e₂₀ e₂₂ e₂₃ e₂₄ e₃₂ p q r = omega arith
 
 word-again : (w : ℕ) → w < 2 ^ 32 → wellFormed18 w ≡ true → word18 (eqb (bits 22 22 w) 1) (bits 19 12 w) (bits 11 0 w) ≡ w
 unfolding wellFormed18 word18
@@ -174,7 +169,7 @@ word-again w h f =
     let status : eqb (bits 31 24 w) 0 ≡ true = both-left _ (eqb (bits 21 20 w) 0) zeros in
     let reserved : eqb (bits 21 20 w) 0 ≡ true = both-right (eqb (bits 31 24 w) 0) _ zeros in
     rw (tested-bit (bits 22 22 w) (bit-lt 22 w))
-    (weave w _ _ _ _ _ _ (bits 31 24 w) (bits 23 23 w) (bits 22 22 w) (bits 21 20 w) (bits 19 12 w) (bits 11 0 w)
+    (from-fields w _ _ _ _ _ _ (bits 31 24 w) (bits 23 23 w) (bits 22 22 w) (bits 21 20 w) (bits 19 12 w) (bits 11 0 w)
     (sym (div-one w) ∙ above 11 0 w zero-le)
     (above 19 12 w (lit≤ tt))
     (above 21 20 w (lit≤ tt))
@@ -229,6 +224,5 @@ op-again h = omega arith
 pub read-write : (h : List ℕ) → AreBytes h → 28 ≤ length h → wellFormed h ≡ true
     → (readOf h ≡ reads.Command (commandOf h)) × (writeOf (commandOf h) h ≡ writes.Done) × (writtenOf (commandOf h) h ≡ h)
 read-write h bytes long f =
-    (read-formed h long f,
-    accepted (commandOf h) h (op-again h) long,
-    accepted-writes (commandOf h) h (op-again h) long ∙ register-again h bytes long f)
+    let a = accepted (commandOf h) h long (op-again h) in
+    (read-formed h long f, a .0, a .1 ∙ register-again h bytes long f)

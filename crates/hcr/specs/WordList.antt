@@ -11,7 +11,8 @@ use lib.Seq.{length-take-le, take-add, take-at, drop-at, drop-drop, split-at}
 use Rattle.words.specs.Leaves.{le-four, le32-is}
 use Rattle.words.specs.Parts.{part, splice, length-part, getD-part}
 use Rattle.words.specs.Words.{AreBytes, leValue, leBytes, le32, le-round, le-back, length-leBytes}
-use Rattle.hcr.specs.Register.{leWords}
+use Rattle.hcr.specs.declared.HcrCommand.{HcrCommand}
+use Rattle.hcr.specs.Register.{leWords, wordsOf, registerOf}
 
 -- What is put right behind something that was put there is put there with it.
 pub splice-more : (at : ℕ) (xs ys l : List ℕ) → at + length xs ≤ length l → splice (at + length xs) ys (splice at xs l) ≡ splice at (xs ++ ys) l
@@ -34,6 +35,10 @@ pub length-leWords : (ws : List ℕ) → length (leWords ws) ≡ 4 * length ws
 unfolding leWords
 length-leWords [] = refl
 length-leWords (w ∷ ws) = simp (length-append, length-leBytes, length-leWords ws) (omega arith)
+
+pub length-registerOf : (c : HcrCommand) → length (registerOf c) ≡ 28
+unfolding registerOf wordsOf
+length-registerOf c = length-leWords (wordsOf c)
 
 pub append-leWords : (us vs : List ℕ) → leWords (us ++ vs) ≡ leWords us ++ leWords vs
 unfolding leWords

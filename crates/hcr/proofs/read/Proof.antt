@@ -1,6 +1,6 @@
 use borrow.Author.Tests.{not-true, not-false}
 use Rattle.words.specs.Choice.{cases}
-use Rattle.hcr.specs.Register.{readOf}
+use Rattle.hcr.specs.Register.{readOf, readRows}
 use borrow.Author.Needs.{needs}
 use Rattle.hcr.proofs.read.Statement.{statement}
 use Rattle.hcr.proofs.read.Tie as tie
@@ -11,7 +11,7 @@ use Rattle.hcr.proofs.well_formed.Reads as well-formed-reads
 
 -- src/lib.rt:174:9
 returns : tie.Need-returns
-unfolding readOf
+unfolding readOf readRows
 returns c = search (cases, not-true, not-false)
 
 -- src/lib.rt:176:9
@@ -20,7 +20,7 @@ well-formed-requires c κs = search needs
 
 -- src/lib.rt:177:9
 returns-2 : tie.Need-returns-2
-unfolding readOf
+unfolding readOf readRows
 returns-2 c = search (cases, not-true, not-false)
 
 -- src/lib.rt:179:25
@@ -29,7 +29,7 @@ command-of-requires c κs = search needs
 
 -- src/lib.rt:170:1
 returns-3 : tie.Need-returns-3
-unfolding readOf
+unfolding readOf readRows
 returns-3 c = search (cases, not-true, not-false)
 
 pub read-spec : {M : Type 1} → statement M
