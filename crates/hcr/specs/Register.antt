@@ -33,7 +33,8 @@ commandOf h =
       token = bits 31 16 (le32 0x14 h);
       event = eqb (bits 22 22 (le32 0x18 h)) 1;
       «op_modifier» = bits 19 12 (le32 0x18 h);
-      op = bits 11 0 (le32 0x18 h) }
+      op = bits 11 0 (le32 0x18 h);
+    }
 
 -- "Well formed: go is 1; status, bits 21:20 of word 18h and bits 15:0 of word 14h are 0." First what it says of word 18h.
 unfoldable pub wellFormed18 : ℕ → Bool

@@ -1,16 +1,16 @@
 -- "Writing a command and reading it gives the command; reading well-formed bytes and writing gives the bytes."
 use mathlib.Core.Path.{_≡_, refl, sym, _∙_, ap}
-use mathlib.Core.Bool.{Bool, true, false}
-use mathlib.Core.List.{List, [], _∷_, _++_}
-use Prim.Native.Nat.{ℕ, _+_, _-_, _*_, _/_, _%_, _^_, _≤_, _<_, zero-le}
+use mathlib.Core.Bool.{Bool, true}
+use mathlib.Core.List.{List}
+use Prim.Native.Nat.{ℕ, _+_, _*_, _/_, _%_, _^_, _≤_, _<_, zero-le}
 use native.Mathlib.Nat.{div-add-mod', div-eq-of-lt, div-one}
 use native.Mathlib.Omega.{arith}
 use borrow.Author.Tests.{eq-eqb, eqb-true, le-ltb}
-use lib.Dec.{eqb, ltb, lit<, lit≤}
+use lib.Dec.{eqb, lit<, lit≤}
 use lib.ListN.{length, getD}
-use Rattle.words.specs.Choice.{pick, both, pick-yes, pick-no, both-yes, both-left, both-right}
-use Rattle.words.specs.Parts.{part, splice, length-splice, splice-part, getD-part, length-part}
-use Rattle.words.specs.Words.{bits, AreBytes, le32, leBytes, le-back}
+use Rattle.words.specs.Choice.{both, both-yes, both-left, both-right}
+use Rattle.words.specs.Parts.{splice, length-splice, splice-part}
+use Rattle.words.specs.Words.{bits, AreBytes, le32}
 use Rattle.hcr.specs.declared.HcrCommand.{HcrCommand}
 use Rattle.hcr.specs.declared.ReadAnswer.the-variants as reads
 use Rattle.hcr.specs.declared.WriteAnswer.the-variants as writes
@@ -116,7 +116,8 @@ module _ (c : HcrCommand) (h : List ℕ) (fits : Fits c) (low : c .op ≤ 0xfff)
         token = token-found i;
         event = event-found i;
         «op_modifier» = op-modifier-found i;
-        op = op-found i }
+        op = op-found i;
+      }
     where
       token-found : bits 31 16 (le32 0x14 after) ≡ c .token
       token-found = ap (bits 31 16) word-14 ∙ token-back (c .token) (fits .token)
@@ -136,7 +137,7 @@ module _ (c : HcrCommand) (h : List ℕ) (fits : Fits c) (low : c .op ≤ 0xfff)
       both-yes _ _ (ap wellFormed18 word-18 ∙ formed-back (c .event) (c .«op_modifier») (c .op) (fits .op-modifier) low)
       (eq-eqb _ _ (ap (bits 15 0) word-14 ∙ below-token-back (c .token)))
 
--- What the table's rows leave.
+-- An op that the register holds is accepted by bytes that are long enough; such bytes, well formed, are read.
 pub accepted : (c : HcrCommand) (h : List ℕ) → 28 ≤ length h → c .op ≤ 0xfff → (writeOf c h ≡ writes.Done) × (writtenOf c h ≡ splice 0 (registerOf c) h)
 accepted c h p q =
     let a = answers-done c h (splice 0 (registerOf c) h) p q refl in
@@ -195,10 +196,8 @@ module _ (at : ℕ) (h : List ℕ) (bytes : AreBytes h) (long : at + 8 ≤ lengt
   unfolding paramAt
   low-again = omega (arith, le32-small (at + 4) h (omega arith) bytes)
 
+-- Reading well-formed bytes and writing.
 module _ (h : List ℕ) (bytes : AreBytes h) (long : 28 ≤ length h) (formed-h : wellFormed h ≡ true) where
-  word-small : (at : ℕ) → at ≤ 24 → le32 at h < 2 ^ 32
-  word-small at p = le32-small at h (omega arith) bytes
-
   words-again : wordsOf (commandOf h) ≡ wordsAt 7 0 h
   unfolding wordsOf commandOf wordsAt wellFormed
   words-again =
@@ -207,8 +206,8 @@ module _ (h : List ℕ) (bytes : AreBytes h) (long : 28 ≤ length h) (formed-h 
         low-again 0 h bytes (omega arith),
         high-again 12 h bytes (omega arith),
         low-again 12 h bytes (omega arith),
-        token-again (le32 0x14 h) (word-small 20 (lit≤ tt)) (eqb-true _ _ (both-right (wellFormed18 (le32 0x18 h)) _ formed-h)),
-        word-again (le32 0x18 h) (word-small 24 (lit≤ tt)) (both-left _ (eqb (bits 15 0 (le32 0x14 h)) 0) formed-h),
+        token-again (le32 0x14 h) (le32-small 20 h (omega arith) bytes) (eqb-true _ _ (both-right (wellFormed18 (le32 0x18 h)) _ formed-h)),
+        word-again (le32 0x18 h) (le32-small 24 h long bytes) (both-left _ (eqb (bits 15 0 (le32 0x14 h)) 0) formed-h),
       )
 
   register-again : splice 0 (registerOf (commandOf h)) h ≡ h
@@ -219,6 +218,22 @@ module _ (h : List ℕ) (bytes : AreBytes h) (long : 28 ≤ length h) (formed-h 
 op-again : (h : List ℕ) → commandOf h .op ≤ 0xfff
 unfolding commandOf bits
 op-again h = omega arith
+
+-- What is read fits.
+pub command-fits : (h : List ℕ) → AreBytes h → 28 ≤ length h → Fits (commandOf h)
+unfolding commandOf paramAt bits
+command-fits h bytes long =
+    record {
+      in-param = omega (arith, small-at 0 (lit≤ tt), small-at 4 (lit≤ tt));
+      in-modifier = small-at 8 (lit≤ tt);
+      out-param = omega (arith, small-at 12 (lit≤ tt), small-at 16 (lit≤ tt));
+      token = omega arith;
+      op-modifier = omega arith;
+      op = omega arith;
+    }
+  where
+    small-at : (at : ℕ) → at ≤ 24 → le32 at h < 2 ^ 32
+    small-at at p = le32-small at h (omega arith) bytes
 
 -- "reading well-formed bytes and writing gives the bytes".
 pub read-write : (h : List ℕ) → AreBytes h → 28 ≤ length h → wellFormed h ≡ true

@@ -1,5 +1,5 @@
 -- "Reading and writing need 28 bytes and touch only the first 28."
-use mathlib.Core.Path.{_≡_, refl, sym, _∙_, ap}
+use mathlib.Core.Path.{_≡_, refl, _∙_, ap}
 use mathlib.Core.List.{List}
 use Prim.Native.Nat.{ℕ, _+_, _≤_}
 use native.Mathlib.Nat.{zero-add}
@@ -13,7 +13,7 @@ use Rattle.words.specs.Words.{le32, leValue}
 use Rattle.hcr.specs.declared.HcrCommand.{HcrCommand}
 use Rattle.hcr.specs.declared.WriteAnswer.{WriteAnswer}
 use Rattle.hcr.specs.declared.WriteAnswer.the-variants as writes
-use Rattle.hcr.specs.Register.{paramAt, commandOf, wellFormed18, wellFormed, readRows, readOf, registerOf, writeRows, writeOf, bytesAfter, writtenOf}
+use Rattle.hcr.specs.Register.{paramAt, commandOf, wellFormed, readRows, readOf, registerOf, writeRows, writeOf, bytesAfter, writtenOf}
 use Rattle.hcr.specs.WordList.{length-registerOf}
 
 module _ (c : HcrCommand) (h : List ℕ) where
@@ -24,8 +24,8 @@ module _ (c : HcrCommand) (h : List ℕ) where
       by-pick (λ (a : WriteAnswer). P (bytesAfter a c h)) (ltb (length h) 28) writes.Short (pick (ltb 0xfff (c .op)) writes.BadOp writes.Done)
       (λ e. same)
       (λ e. by-pick (λ (a : WriteAnswer). P (bytesAfter a c h)) (ltb 0xfff (c .op)) writes.BadOp writes.Done
-        (λ f. same)
-        (λ f. done (ltb-false (length h) 28 e)))
+      (λ f. same)
+      (λ f. done (ltb-false (length h) 28 e)))
 
   -- the writer leaves the length
   pub length-writtenOf : length (writtenOf c h) ≡ length h

@@ -3,7 +3,6 @@ ghost use mathlib.Core.Path.{_≡_};
 ghost use Prim.Native.Nat.{_+_, _*_, _/_, _%_, _^_, _≤_};
 ghost use mathlib.Core.List.{_∷_, []};
 ghost use lib.ListN.{length};
-ghost use lib.Dec.{eqb};
 ghost use Rattle.words.specs.Parts.{splice};
 ghost use Rattle.words.specs.Words.{bits};
 ghost use Rattle.hcr.specs.Register.{bit, leWords, paramAt, commandOf, wellFormed18, wellFormed, readRows, readOf, readNumber, word18, registerOf, writeRows, writeOf, writtenOf, writtenNumber};
@@ -13,7 +12,7 @@ pub struct HcrCommand {
     pub in_modifier: u32,
     pub out_param: u64,
     pub token: u16,
-    // Document 01's E.
+    // Document 01's E: completion is reported to an event queue.
     pub event: bool,
     pub op_modifier: u8,
     pub op: u16,
@@ -74,7 +73,7 @@ fn op_of(w: u32) -> u16
     (w & 0xfff) as u16
 }
 
-// The two halves of word 14h.
+// The fields of word 14h.
 fn token_of(w: u32) -> u16
     ensures { λ r. ⌜ r ≡ bits 31 16 w ⌝ }
 {
@@ -172,7 +171,7 @@ fn command_of(hcr: &[u8]) -> HcrCommand
     }
 }
 
-// The command in the register's first 28 bytes.
+// The command in the register's first 28 bytes. 0x83, 3 and 0 are document 01's numbers.
 pub fn read(hcr: &[u8]) -> ReadAnswer
     ensures { λ r. ⌜ (r ≡ readOf (now (hcr .entry))) × (readNumber r ≡ readRows (now (hcr .entry)) 0x83 3 0) ⌝ }
 {

@@ -1,10 +1,8 @@
+-- `hcr::event_of` meets its contract.
 use Rattle.hcr.specs.Fields.{masked}
 use Rattle.hcr.proofs.event_of.Statement.{statement}
 use Rattle.hcr.proofs.event_of.Tie as tie
-use Rattle.hcr.proofs.event_of.Reads as reads
-use Rattle.hcr.proofs.event_of.Lts as lts
 
--- src/lib.rt:53:1
 returns : tie.Need-returns
 returns c = masked 22 22 _
 

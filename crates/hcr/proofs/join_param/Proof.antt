@@ -1,11 +1,9 @@
+-- `hcr::join_param` meets its contract.
 use borrow.Author.Needs.{needs}
 use Rattle.hcr.specs.Fields.{joins}
 use Rattle.hcr.proofs.join_param.Statement.{statement}
 use Rattle.hcr.proofs.join_param.Tie as tie
-use Rattle.hcr.proofs.join_param.Reads as reads
-use Rattle.hcr.proofs.join_param.Lts as lts
 
--- src/lib.rt:106:1
 returns : tie.Need-returns
 returns c = joins 32 64 _ _ (search needs) (search needs)
 

@@ -1,15 +1,12 @@
+-- `hcr::low_of` meets its contract.
 use native.Mathlib.Omega.{arith}
 use lib.Bits.{and-mask, mask-lt}
 use Rattle.hcr.proofs.low_of.Statement.{statement}
 use Rattle.hcr.proofs.low_of.Tie as tie
-use Rattle.hcr.proofs.low_of.Reads as reads
-use Rattle.hcr.proofs.low_of.Lts as lts
 
--- src/lib.rt:121:5
 cast-result : tie.Need-cast-result
 cast-result c = omega (arith, mask-lt (c .args .v) 32)
 
--- src/lib.rt:118:1
 returns : tie.Need-returns
 returns c = and-mask _ 32
 

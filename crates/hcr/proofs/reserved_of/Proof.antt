@@ -1,10 +1,8 @@
+-- `hcr::reserved_of` meets its contract.
 use Rattle.hcr.specs.Fields.{masked}
 use Rattle.hcr.proofs.reserved_of.Statement.{statement}
 use Rattle.hcr.proofs.reserved_of.Tie as tie
-use Rattle.hcr.proofs.reserved_of.Reads as reads
-use Rattle.hcr.proofs.reserved_of.Lts as lts
 
--- src/lib.rt:59:1
 returns : tie.Need-returns
 returns c = masked 21 20 _
 

@@ -1,17 +1,14 @@
+-- `hcr::token_of` meets its contract.
 use Prim.Native.Nat.{_/_}
 use native.Mathlib.Omega.{arith}
 use lib.Bits.{mask-lt}
 use Rattle.hcr.specs.Fields.{masked}
 use Rattle.hcr.proofs.token_of.Statement.{statement}
 use Rattle.hcr.proofs.token_of.Tie as tie
-use Rattle.hcr.proofs.token_of.Reads as reads
-use Rattle.hcr.proofs.token_of.Lts as lts
 
--- src/lib.rt:81:5
 cast-result : tie.Need-cast-result
 cast-result c = omega (arith, mask-lt (c .args .w / 0x10000) 16)
 
--- src/lib.rt:78:1
 returns : tie.Need-returns
 returns c = masked 31 16 _
 

@@ -1,38 +1,27 @@
+-- `hcr::write_param` meets its contract.
 use Rattle.hcr.specs.Writing.{two-words}
 use borrow.Author.Needs.{needs}
 use Rattle.hcr.proofs.write_param.Statement.{statement}
 use Rattle.hcr.proofs.write_param.Tie as tie
-use Rattle.hcr.proofs.write_param.Reads as reads
-use Rattle.hcr.proofs.write_param.Lts as lts
-use Rattle.hcr.proofs.high_of.Reads as high-of-reads
-use Rattle.hcr.proofs.low_of.Reads as low-of-reads
-use Rattle.words.proofs.write_le32.Reads as write-le32-reads
 
--- src/lib.rt:186:32
 high-of-requires : tie.Need-high-of-requires
 high-of-requires c κs = search needs
 
--- src/lib.rt:186:5
 write-le32-requires : tie.Need-write-le32-requires
 write-le32-requires c κs = search needs
 
--- src/lib.rt:187:28
 add-write-le32 : tie.Need-add-write-le32
 add-write-le32 c = search needs
 
--- src/lib.rt:187:36
 low-of-requires : tie.Need-low-of-requires
 low-of-requires c κs = search needs
 
--- src/lib.rt:187:5
 write-le32-requires-2 : tie.Need-write-le32-requires-2
 write-le32-requires-2 c κs = search needs
 
--- src/lib.rt:182:1
 same-length : tie.Need-same-length
 same-length c = search needs
 
--- src/lib.rt:182:1
 returns : tie.Need-returns
 returns c = search (needs, two-words)
 

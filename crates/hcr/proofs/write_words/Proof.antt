@@ -1,47 +1,33 @@
+-- `hcr::write_words` meets its contract: `seven-words` takes what each call ensures, the last one first.
 use Rattle.hcr.specs.Writing.{seven-words}
 use borrow.Author.Needs.{needs}
 use Rattle.hcr.proofs.write_words.Statement.{statement}
 use Rattle.hcr.proofs.write_words.Tie as tie
-use Rattle.hcr.proofs.write_words.Reads as reads
-use Rattle.hcr.proofs.write_words.Lts as lts
-use Rattle.hcr.proofs.join_14.Reads as join-14-reads
-use Rattle.hcr.proofs.join_18.Reads as join-18-reads
-use Rattle.hcr.proofs.write_param.Reads as write-param-reads
-use Rattle.words.proofs.write_le32.Reads as write-le32-reads
 
--- src/lib.rt:200:5
 write-param-requires : tie.Need-write-param-requires
 write-param-requires c κs = search needs
 
--- src/lib.rt:201:5
 write-le32-requires : tie.Need-write-le32-requires
 write-le32-requires c κs = search needs
 
--- src/lib.rt:202:5
 write-param-requires-2 : tie.Need-write-param-requires-2
 write-param-requires-2 c κs = search needs
 
--- src/lib.rt:203:34
 join-14-requires : tie.Need-join-14-requires
 join-14-requires c κs = search needs
 
--- src/lib.rt:203:5
 write-le32-requires-2 : tie.Need-write-le32-requires-2
 write-le32-requires-2 c κs = search needs
 
--- src/lib.rt:204:34
 join-18-requires : tie.Need-join-18-requires
 join-18-requires c κs = search needs
 
--- src/lib.rt:204:5
 write-le32-requires-3 : tie.Need-write-le32-requires-3
 write-le32-requires-3 c κs = search needs
 
--- src/lib.rt:196:1
 same-length : tie.Need-same-length
 same-length c = search needs
 
--- src/lib.rt:196:1
 returns : tie.Need-returns
 returns c =
     seven-words _ _ _ _ _ _ _ _ _
