@@ -1,0 +1,104 @@
+-- The command register as document 01 gives it, on lists of bytes.
+use mathlib.Core.Bool.{Bool, true, false}
+use mathlib.Core.List.{List, [], _∷_, _++_}
+use Prim.Native.Nat.{ℕ, _+_, _*_, _/_, _%_, _^_}
+use lib.Dec.{eqb, ltb}
+use lib.ListN.{length}
+use Rattle.words.specs.Choice.{pick, both}
+use Rattle.words.specs.Parts.{splice}
+use Rattle.words.specs.Words.{bits, le32, leBytes}
+use Rattle.hcr.specs.declared.HcrCommand.{HcrCommand}
+use Rattle.hcr.specs.declared.ReadAnswer.{ReadAnswer}
+use Rattle.hcr.specs.declared.ReadAnswer.the-variants as reads
+use Rattle.hcr.specs.declared.WriteAnswer.{WriteAnswer}
+use Rattle.hcr.specs.declared.WriteAnswer.the-variants as writes
+
+-- A flag as the bit that stands for it.
+abbrev pub bit : Bool → ℕ
+bit true = 1
+bit false = 0
+
+-- "00h in_param high, 04h low": a parameter of 64 bits, its high word first.
+unfoldable pub paramAt : ℕ → List ℕ → ℕ
+paramAt at h = le32 at h * 2 ^ 32 + le32 (at + 4) h
+
+-- "00h in_param high, 04h low; 08h in_modifier; 0Ch out_param high, 10h low; 14h token in 31:16.
+-- Word 18h: status 31:24, go 23, E 22, op_modifier 19:12, op 11:0." Event is E.
+unfoldable pub commandOf : List ℕ → HcrCommand
+commandOf h =
+    record {
+      «in_param» = paramAt 0x00 h;
+      «in_modifier» = le32 0x08 h;
+      «out_param» = paramAt 0x0c h;
+      token = bits 31 16 (le32 0x14 h);
+      event = eqb (bits 22 22 (le32 0x18 h)) 1;
+      «op_modifier» = bits 19 12 (le32 0x18 h);
+      op = bits 11 0 (le32 0x18 h);
+    }
+
+-- "Well formed: go is 1; status, bits 21:20 of word 18h and bits 15:0 of word 14h are 0." First what it says of word 18h.
+unfoldable pub wellFormed18 : ℕ → Bool
+wellFormed18 w = both (eqb (bits 23 23 w) 1) (both (eqb (bits 31 24 w) 0) (eqb (bits 21 20 w) 0))
+
+unfoldable pub wellFormed : List ℕ → Bool
+wellFormed h = both (wellFormed18 (le32 0x18 h)) (eqb (bits 15 0 (le32 0x14 h)) 0)
+
+-- The rows of document 01's table that reading can meet, top to bottom, with what is given at each: "HCR below 28", "HCR not well formed".
+unfoldable pub readRows : {A : Type 0} → List ℕ → A → A → A → A
+readRows h short malformed command = pick (ltb (length h) 28) short (pick (wellFormed h) command malformed)
+
+-- "The register's reader gives E as it finds it; only submission refuses E."
+unfoldable pub readOf : List ℕ → ReadAnswer
+readOf h = readRows h reads.Short reads.Malformed (reads.Command (commandOf h))
+
+-- Word 18h of a command, by the places in the same layout: go is 1, status and bits 21:20 are 0.
+unfoldable pub word18 : Bool → ℕ → ℕ → ℕ
+word18 e m o = 1 * 2 ^ 23 + bit e * 2 ^ 22 + m * 2 ^ 12 + o
+
+-- The bytes of words that follow each other, each "little-endian 32-bit".
+unfoldable pub leWords : List ℕ → List ℕ
+leWords [] = []
+leWords (w ∷ ws) = leBytes 4 w ++ leWords ws
+
+-- The seven words of a command, 00h to 18h.
+unfoldable pub wordsOf : HcrCommand → List ℕ
+wordsOf c =
+    c .«in_param» / 2 ^ 32
+    ∷ c .«in_param» % 2 ^ 32
+    ∷ c .«in_modifier»
+    ∷ c .«out_param» / 2 ^ 32
+    ∷ c .«out_param» % 2 ^ 32
+    ∷ c .token * 2 ^ 16
+    ∷ word18 (c .event) (c .«op_modifier») (c .op)
+    ∷ []
+
+-- "28 bytes, seven little-endian 32-bit words".
+unfoldable pub registerOf : HcrCommand → List ℕ
+registerOf c = leWords (wordsOf c)
+
+-- The rows that writing can meet: "HCR below 28", "op above 0xfff in writing".
+unfoldable pub writeRows : {A : Type 0} → HcrCommand → List ℕ → A → A → A → A
+writeRows c h short bad-op done = pick (ltb (length h) 28) short (pick (ltb 0xfff (c .op)) bad-op done)
+
+unfoldable pub writeOf : HcrCommand → List ℕ → WriteAnswer
+writeOf c h = writeRows c h writes.Short writes.BadOp writes.Done
+
+-- What the lent bytes hold after an answer: the command in the first 28; "Every refusal returns its number alone and leaves everything."
+unfoldable pub bytesAfter : WriteAnswer → HcrCommand → List ℕ → List ℕ
+bytesAfter writes.Done c h = splice 0 (registerOf c) h
+bytesAfter writes.Short c h = h
+bytesAfter writes.BadOp c h = h
+
+unfoldable pub writtenOf : HcrCommand → List ℕ → List ℕ
+writtenOf c h = bytesAfter (writeOf c h) c h
+
+-- Document 01's number for each answer: "0 means done or accepted".
+abbrev pub readNumber : ReadAnswer → ℕ
+readNumber (reads.Command c) = 0
+readNumber reads.Short = 0x83
+readNumber reads.Malformed = 3
+
+abbrev pub writtenNumber : WriteAnswer → ℕ
+writtenNumber writes.Done = 0
+writtenNumber writes.Short = 0x83
+writtenNumber writes.BadOp = 3

@@ -1,0 +1,243 @@
+-- "Writing a command and reading it gives the command; reading well-formed bytes and writing gives the bytes."
+use mathlib.Core.Path.{_≡_, refl, sym, _∙_, ap}
+use mathlib.Core.Bool.{Bool, true}
+use mathlib.Core.List.{List}
+use Prim.Native.Nat.{ℕ, _+_, _*_, _/_, _%_, _^_, _≤_, _<_, zero-le}
+use native.Mathlib.Nat.{div-add-mod', div-eq-of-lt, div-one}
+use native.Mathlib.Omega.{arith}
+use borrow.Author.Tests.{eq-eqb, eqb-true, le-ltb}
+use lib.Dec.{eqb, lit<, lit≤}
+use lib.ListN.{length, getD}
+use Rattle.words.specs.Choice.{both, both-yes, both-left, both-right}
+use Rattle.words.specs.Parts.{splice, length-splice, splice-part}
+use Rattle.words.specs.Words.{bits, AreBytes, le32}
+use Rattle.hcr.specs.declared.HcrCommand.{HcrCommand}
+use Rattle.hcr.specs.declared.ReadAnswer.the-variants as reads
+use Rattle.hcr.specs.declared.WriteAnswer.the-variants as writes
+use Rattle.hcr.specs.Register.{bit, paramAt, commandOf, wellFormed18, wellFormed, readRows, readOf, word18, wordsOf, registerOf, writeOf, writtenOf}
+use Rattle.hcr.specs.Fields.{bit-small, bit-tested, tested-bit, bit-lt, above}
+use Rattle.hcr.specs.Writing.{answers-done}
+use Rattle.hcr.specs.WordList.{length-registerOf, word-read, wordsAt, le32-small, words-back}
+
+-- Every field's value is one of its type.
+pub record Fits (c : HcrCommand) : Type 0 where
+  pub in-param : c .«in_param» < 2 ^ 64
+  pub in-modifier : c .«in_modifier» < 2 ^ 32
+  pub out-param : c .«out_param» < 2 ^ 64
+  pub token : c .token < 2 ^ 16
+  pub op-modifier : c .«op_modifier» < 2 ^ 8
+  pub op : c .op < 2 ^ 16
+
+-- Each field of word 18h is found where it was put, and the rest of the word is as a well-formed one has it.
+module _ (e : Bool) (m o : ℕ) (hm : m < 2 ^ 8) (ho : o ≤ 0xfff) where
+  small : bit e < 2
+  small = bit-small e
+
+  op-back : bits 11 0 (word18 e m o) ≡ o
+  unfolding bits word18
+  op-back = omega (arith, small)
+
+  op-modifier-back : bits 19 12 (word18 e m o) ≡ m
+  unfolding bits word18
+  op-modifier-back = omega (arith, small)
+
+  event-bit : bits 22 22 (word18 e m o) ≡ bit e
+  unfolding bits word18
+  event-bit = omega (arith, small)
+
+  event-back : eqb (bits 22 22 (word18 e m o)) 1 ≡ e
+  event-back = ap (λ (x : ℕ). eqb x 1) event-bit ∙ bit-tested e
+
+  go-back : bits 23 23 (word18 e m o) ≡ 1
+  unfolding bits word18
+  go-back = omega (arith, small)
+
+  status-back : bits 31 24 (word18 e m o) ≡ 0
+  unfolding bits word18
+  status-back = omega (arith, small)
+
+  reserved-back : bits 21 20 (word18 e m o) ≡ 0
+  unfolding bits word18
+  reserved-back = omega (arith, small)
+
+  formed-back : wellFormed18 (word18 e m o) ≡ true
+  unfolding wellFormed18
+  formed-back = both-yes _ _ (eq-eqb _ _ go-back) (both-yes _ _ (eq-eqb _ _ status-back) (eq-eqb _ _ reserved-back))
+
+  word-fits : word18 e m o < 2 ^ 32
+  unfolding word18
+  word-fits = omega (arith, small)
+
+-- The token is found in word 14h, and nothing below it.
+token-back : (t : ℕ) → t < 2 ^ 16 → bits 31 16 (t * 2 ^ 16) ≡ t
+unfolding bits
+token-back t h = omega arith
+
+below-token-back : (t : ℕ) → bits 15 0 (t * 2 ^ 16) ≡ 0
+unfolding bits
+below-token-back t = omega arith
+
+-- Writing a command and reading it.
+module _ (c : HcrCommand) (h : List ℕ) (fits : Fits c) (low : c .op ≤ 0xfff) where
+  abbrev after : List ℕ
+  after = splice 0 (registerOf c) h
+
+  word : (k : ℕ) → k < 7 → getD (wordsOf c) k 0 < 2 ^ 32 → le32 (4 * k) after ≡ getD (wordsOf c) k 0
+  unfolding registerOf wordsOf
+  word k p f = word-read k (wordsOf c) h p f
+
+  in-param-back : paramAt 0x00 after ≡ c .«in_param»
+  unfolding paramAt wordsOf
+  in-param-back = rw (word 0 (lit< tt) (omega (arith, fits)), word 1 (lit< tt) (omega (arith, fits))) (div-add-mod' _ _)
+
+  in-modifier-back : le32 0x08 after ≡ c .«in_modifier»
+  unfolding wordsOf
+  in-modifier-back = word 2 (lit< tt) (fits .in-modifier)
+
+  out-param-back : paramAt 0x0c after ≡ c .«out_param»
+  unfolding paramAt wordsOf
+  out-param-back = rw (word 3 (lit< tt) (omega (arith, fits)), word 4 (lit< tt) (omega (arith, fits))) (div-add-mod' _ _)
+
+  word-14 : le32 0x14 after ≡ c .token * 2 ^ 16
+  unfolding wordsOf
+  word-14 = word 5 (lit< tt) (omega (arith, fits))
+
+  word-18 : le32 0x18 after ≡ word18 (c .event) (c .«op_modifier») (c .op)
+  unfolding wordsOf
+  word-18 = word 6 (lit< tt) (word-fits (c .event) (c .«op_modifier») (c .op) (fits .op-modifier) low)
+
+  command-back : commandOf after ≡ c
+  unfolding commandOf
+  command-back = λ i.
+      record {
+        «in_param» = in-param-back i;
+        «in_modifier» = in-modifier-back i;
+        «out_param» = out-param-back i;
+        token = token-found i;
+        event = event-found i;
+        «op_modifier» = op-modifier-found i;
+        op = op-found i;
+      }
+    where
+      token-found : bits 31 16 (le32 0x14 after) ≡ c .token
+      token-found = ap (bits 31 16) word-14 ∙ token-back (c .token) (fits .token)
+
+      event-found : eqb (bits 22 22 (le32 0x18 after)) 1 ≡ c .event
+      event-found = ap (λ (x : ℕ). eqb (bits 22 22 x) 1) word-18 ∙ event-back (c .event) (c .«op_modifier») (c .op) (fits .op-modifier) low
+
+      op-modifier-found : bits 19 12 (le32 0x18 after) ≡ c .«op_modifier»
+      op-modifier-found = ap (bits 19 12) word-18 ∙ op-modifier-back (c .event) (c .«op_modifier») (c .op) (fits .op-modifier) low
+
+      op-found : bits 11 0 (le32 0x18 after) ≡ c .op
+      op-found = ap (bits 11 0) word-18 ∙ op-back (c .event) (c .«op_modifier») (c .op) (fits .op-modifier) low
+
+  formed : wellFormed after ≡ true
+  unfolding wellFormed
+  formed =
+      both-yes _ _ (ap wellFormed18 word-18 ∙ formed-back (c .event) (c .«op_modifier») (c .op) (fits .op-modifier) low)
+      (eq-eqb _ _ (ap (bits 15 0) word-14 ∙ below-token-back (c .token)))
+
+-- An op that the register holds is accepted by bytes that are long enough; such bytes, well formed, are read.
+pub accepted : (c : HcrCommand) (h : List ℕ) → 28 ≤ length h → c .op ≤ 0xfff → (writeOf c h ≡ writes.Done) × (writtenOf c h ≡ splice 0 (registerOf c) h)
+accepted c h p q =
+    let a = answers-done c h (splice 0 (registerOf c) h) p q refl in
+    (sym (a .0), sym (a .2))
+
+pub read-formed : (h : List ℕ) → 28 ≤ length h → wellFormed h ≡ true → readOf h ≡ reads.Command (commandOf h)
+unfolding readRows readOf
+read-formed h p f = rw (le-ltb (length h) 28 p, f)
+
+-- "Writing a command and reading it gives the command".
+pub write-read : (c : HcrCommand) (h : List ℕ) → Fits c → c .op ≤ 0xfff → 28 ≤ length h → (writeOf c h ≡ writes.Done) × (readOf (writtenOf c h) ≡ reads.Command c)
+write-read c h fits low long =
+    let a = accepted c h long low in
+    (a .0, ap readOf (a .1) ∙ read-formed (splice 0 (registerOf c) h) still (formed c h fits low) ∙ ap reads.Command (command-back c h fits low))
+  where
+    still : 28 ≤ length (splice 0 (registerOf c) h)
+    still = omega (arith, length-splice 0 (registerOf c) h (omega (arith, length-registerOf c)))
+
+-- Word 18h, well formed, is put together again from its fields: x is the word above each of them.
+from-fields : (w x12 x20 x22 x23 x24 x32 status go e reserved m o : ℕ)
+    → w ≡ x12 * 2 ^ 12 + o → x12 ≡ x20 * 2 ^ 8 + m → x20 ≡ x22 * 2 ^ 2 + reserved → x22 ≡ x23 * 2 + e → x23 ≡ x24 * 2 + go → x24 ≡ x32 * 2 ^ 8 + status
+    → x32 ≡ 0 → status ≡ 0 → go ≡ 1 → reserved ≡ 0 → 1 * 2 ^ 23 + e * 2 ^ 22 + m * 2 ^ 12 + o ≡ w
+from-fields w x12 x20 x22 x23 x24 x32 status go e reserved m o e₀ e₁₂ e₂₀ e₂₂ e₂₃ e₂₄ e₃₂ p q r = omega arith
+
+word-again : (w : ℕ) → w < 2 ^ 32 → wellFormed18 w ≡ true → word18 (eqb (bits 22 22 w) 1) (bits 19 12 w) (bits 11 0 w) ≡ w
+unfolding wellFormed18 word18
+word-again w h f =
+    let zeros : both (eqb (bits 31 24 w) 0) (eqb (bits 21 20 w) 0) ≡ true = both-right (eqb (bits 23 23 w) 1) _ f in
+    let go : eqb (bits 23 23 w) 1 ≡ true = both-left _ (both (eqb (bits 31 24 w) 0) (eqb (bits 21 20 w) 0)) f in
+    let status : eqb (bits 31 24 w) 0 ≡ true = both-left _ (eqb (bits 21 20 w) 0) zeros in
+    let reserved : eqb (bits 21 20 w) 0 ≡ true = both-right (eqb (bits 31 24 w) 0) _ zeros in
+    rw (tested-bit (bits 22 22 w) (bit-lt 22 w))
+    (from-fields w _ _ _ _ _ _ (bits 31 24 w) (bits 23 23 w) (bits 22 22 w) (bits 21 20 w) (bits 19 12 w) (bits 11 0 w)
+    (sym (div-one w) ∙ above 11 0 w zero-le)
+    (above 19 12 w (lit≤ tt))
+    (above 21 20 w (lit≤ tt))
+    (above 22 22 w (lit≤ tt))
+    (above 23 23 w (lit≤ tt))
+    (above 31 24 w (lit≤ tt))
+    (div-eq-of-lt h)
+    (eqb-true _ _ status)
+    (eqb-true _ _ go)
+    (eqb-true _ _ reserved))
+
+token-again : (w : ℕ) → w < 2 ^ 32 → bits 15 0 w ≡ 0 → bits 31 16 w * 2 ^ 16 ≡ w
+unfolding bits
+token-again w h e = omega arith
+
+-- The two words of a parameter that was read.
+module _ (at : ℕ) (h : List ℕ) (bytes : AreBytes h) (long : at + 8 ≤ length h) where
+  high-again : paramAt at h / 2 ^ 32 ≡ le32 at h
+  unfolding paramAt
+  high-again = omega (arith, le32-small (at + 4) h (omega arith) bytes)
+
+  low-again : paramAt at h % 2 ^ 32 ≡ le32 (at + 4) h
+  unfolding paramAt
+  low-again = omega (arith, le32-small (at + 4) h (omega arith) bytes)
+
+-- Reading well-formed bytes and writing.
+module _ (h : List ℕ) (bytes : AreBytes h) (long : 28 ≤ length h) (formed-h : wellFormed h ≡ true) where
+  words-again : wordsOf (commandOf h) ≡ wordsAt 7 0 h
+  unfolding wordsOf commandOf wordsAt wellFormed
+  words-again =
+      rw (
+        high-again 0 h bytes (omega arith),
+        low-again 0 h bytes (omega arith),
+        high-again 12 h bytes (omega arith),
+        low-again 12 h bytes (omega arith),
+        token-again (le32 0x14 h) (le32-small 20 h (omega arith) bytes) (eqb-true _ _ (both-right (wellFormed18 (le32 0x18 h)) _ formed-h)),
+        word-again (le32 0x18 h) (le32-small 24 h long bytes) (both-left _ (eqb (bits 15 0 (le32 0x14 h)) 0) formed-h),
+      )
+
+  register-again : splice 0 (registerOf (commandOf h)) h ≡ h
+  unfolding registerOf
+  register-again = rw (words-again, words-back 7 0 h long bytes) (splice-part 0 28 h long)
+
+-- An op that was read is one that the register holds.
+op-again : (h : List ℕ) → commandOf h .op ≤ 0xfff
+unfolding commandOf bits
+op-again h = omega arith
+
+-- What is read fits.
+pub command-fits : (h : List ℕ) → AreBytes h → 28 ≤ length h → Fits (commandOf h)
+unfolding commandOf paramAt bits
+command-fits h bytes long =
+    record {
+      in-param = omega (arith, small-at 0 (lit≤ tt), small-at 4 (lit≤ tt));
+      in-modifier = small-at 8 (lit≤ tt);
+      out-param = omega (arith, small-at 12 (lit≤ tt), small-at 16 (lit≤ tt));
+      token = omega arith;
+      op-modifier = omega arith;
+      op = omega arith;
+    }
+  where
+    small-at : (at : ℕ) → at ≤ 24 → le32 at h < 2 ^ 32
+    small-at at p = le32-small at h (omega arith) bytes
+
+-- "reading well-formed bytes and writing gives the bytes".
+pub read-write : (h : List ℕ) → AreBytes h → 28 ≤ length h → wellFormed h ≡ true
+    → (readOf h ≡ reads.Command (commandOf h)) × (writeOf (commandOf h) h ≡ writes.Done) × (writtenOf (commandOf h) h ≡ h)
+read-write h bytes long f =
+    let a = accepted (commandOf h) h long (op-again h) in
+    (read-formed h long f, a .0, a .1 ∙ register-again h bytes long f)
