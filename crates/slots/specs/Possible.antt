@@ -1,0 +1,56 @@
+-- 0x87, "state handed in impossible", condition by condition.
+use mathlib.Core.Bool.{Bool, true, false, not}
+use mathlib.Core.List.{List}
+use Prim.Native.Nat.{ℕ}
+use lib.Dec.{eqb, ltb}
+use Rattle.words.specs.Choice.{pick, both, either}
+use Rattle.context.specs.Layout.{fitsStore}
+use Rattle.context.specs.declared.Logs.{Logs}
+use Rattle.tables.specs.Records.{numbersHold}
+use Rattle.tables.specs.Bursts.{totalOf}
+use Rattle.slots.specs.declared.Hca.{Hca}
+use Rattle.slots.specs.declared.Slot.{Slot}
+use Rattle.slots.specs.declared.Status.{Status}
+use Rattle.slots.specs.declared.Status.the-variants.{Free, Running, Finished}
+use Rattle.slots.specs.Rows.{anySlot, anyRest, isOccupied, hasCommand}
+use Rattle.slots.specs.Holds.{heldAgainst}
+
+-- "a slot's request .. whose .. index, PSN or state would get 2 or 3 ..; bursts moved not below (running) or not equal to
+-- (finished) its total"
+abbrev pub statusWrong : Logs → Status → Bool
+statusWrong g Free = false
+statusWrong g (Running q m) = either (not (numbersHold g q)) (not (ltb m (totalOf q)))
+statusWrong g (Finished q m) = either (not (numbersHold g q)) (not (eqb m (totalOf q)))
+
+abbrev pub slotWrong : Logs → Slot → Bool
+slotWrong g s = statusWrong g (s .status)
+
+-- "two occupied slots with commands"
+unfoldable pub commandBefore : Slot → List Slot → Bool
+commandBefore s ss = both (hasCommand s) (anySlot hasCommand ss)
+
+unfoldable pub twoCommands : List Slot → Bool
+twoCommands row = anyRest commandBefore row
+
+-- "running slots whose holds clash"
+abbrev pub statusClash : Status → List Slot → Bool
+statusClash Free ss = false
+statusClash (Running q m) ss = heldAgainst ss q
+statusClash (Finished q m) ss = false
+
+abbrev pub clashBefore : Slot → List Slot → Bool
+clashBefore s ss = statusClash (s .status) ss
+
+unfoldable pub holdsClash : List Slot → Bool
+holdsClash row = anyRest clashBefore row
+
+-- "closed with an occupied slot; open with counts past their ranges or the store; a slot's request ..; two occupied slots
+-- with commands; running slots whose holds clash"
+unfoldable pub impossible : Hca → List Slot → Bool
+impossible h row =
+    pick (h .«open»)
+    (either (not (fitsStore (h .logs) (h .«store_len»)))
+    (either (anySlot (slotWrong (h .logs)) row)
+    (either (twoCommands row)
+    (holdsClash row))))
+    (anySlot isOccupied row)
