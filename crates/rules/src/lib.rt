@@ -1,0 +1,60 @@
+// The answers of the model's five calls. What each call answers and leaves is defined in specs/.
+
+// Why a call is refused, in the order of document 01's table. Two causes may share a number.
+pub enum Refusal {
+    // The row is not 8 long, the room is below 2,048 bytes, the store's length is not the one that
+    // INIT_HCA was lent, or the HCR is below 28 bytes.
+    BadLength,
+    // The state handed in is impossible.
+    Impossible,
+    // There is no such slot, or it is free, or a step names a finished one.
+    NoRequest,
+    // A running slot is collected.
+    StillRunning,
+    // The buffer is shorter than the answer.
+    ShortBuffer,
+    // The HCR is not well formed, or asks for an event.
+    Malformed,
+    // The op or request number is not served.
+    NotServed,
+    // INIT_HCA while open, or anything else but NOP while closed.
+    BadSystemState,
+    // Another command is uncollected, or CLOSE_HCA finds an occupied slot.
+    Busy,
+    // op_modifier, in_modifier, index, PSN or state is wrong.
+    BadParameter,
+    // The mailbox is shorter than needed.
+    ShortMailbox,
+    // The mailbox content is wrong.
+    BadContent,
+    // The record is held against this request.
+    Held,
+    // The edge is not permitted, or the owner is the wrong one.
+    NotPermitted,
+    // All eight slots are occupied.
+    Full,
+}
+
+// A submission: a command done at once, a request accepted into a slot, or a refusal.
+pub enum SubmitAnswer {
+    Done,
+    Accepted(usize),
+    Refused(Refusal),
+}
+
+// A step: the bursts still to move.
+pub enum StepAnswer {
+    Left(u8),
+    Refused(Refusal),
+}
+
+// A collection: how many bytes of the buffer hold the answer.
+pub enum CollectAnswer {
+    Collected(usize),
+    Refused(Refusal),
+}
+
+pub enum ResetAnswer {
+    Done,
+    Refused(Refusal),
+}
