@@ -28,7 +28,7 @@ takeWords first last image r = splice first (part first (last + 4 - first) image
 
 -- "the state [is] in 31:28" of word 00h, which is big-endian: the top half of byte 0
 unfoldable pub setState : State → List ℕ → List ℕ
-setState s r = splice 0 (stateCode s * 16 + getD r 0 0 % 16 ∷ []) r
+setState s r = splice 0 ((stateCode s * 16 + getD r 0 0 % 16) ∷ []) r
 
 -- The table of edges: "Only the words named are taken; the state is set; the rest of the record stays." Of the edge to RESET:
 -- "all 256 bytes zero".
