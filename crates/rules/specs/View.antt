@@ -1,0 +1,195 @@
+-- What demand 3 looks at in a world, and what a world that passed the first rows of the table of refusals is like.
+use mathlib.Core.Path.{_≡_, refl, sym, _∙_, ap, ap₂, subst}
+use mathlib.Core.Bool.{Bool, true, false, not, false≢true, true≢false}
+use mathlib.Core.List.{List, [], _∷_}
+use Prim.Native.Nat.{ℕ, zero, suc, _+_, _*_, _≤_, _<_}
+use native.Mathlib.Decide.{decLt}
+use native.Mathlib.Omega.{arith}
+use borrow.Author.Tests.{ltb-true, ltb-false, eqb-true, leb-true, not-false}
+use lib.Dec.{eqb, ltb, leb}
+use lib.ListN.{length, getD, drop, set, List·getD-eq-default}
+use lib.Seq.{getD-set-other, getD-set-same}
+use Rattle.words.specs.Choice.{pick, both, either, both-left, both-right}
+use Rattle.words.specs.Parts.{part, splice, length-part}
+use Rattle.context.specs.Layout.{isRecord, recordOf, recordAt, recordSize, inUse, rangesHold, fitsStore}
+use Rattle.context.specs.Records.{record-inside}
+use Rattle.context.specs.declared.Logs.{Logs}
+use Rattle.context.specs.declared.Record.{Record}
+use Rattle.requests.specs.declared.Request.{Request}
+use Rattle.tables.specs.Records.{recordOf as touched, psnHolds, numbersHold}
+use Rattle.tables.specs.Bursts.{burstsOf, totalOf}
+use Rattle.answers.specs.Answers.{answerOf}
+use Rattle.slots.specs.Slots.{slot}
+use Rattle.slots.specs.Rows.{anySlot, anyRest, isOccupied}
+use Rattle.slots.specs.Possible.{impossible, slotWrong, statusWrong, twoCommands, holdsClash}
+use Rattle.slots.specs.declared.Hca.{Hca}
+use Rattle.slots.specs.declared.Slot.{Slot}
+use Rattle.slots.specs.declared.Status.{Status}
+use Rattle.slots.specs.declared.Status.the-variants.{Free, Running, Finished}
+use Rattle.serial.specs.Slots.{Slot as Shown, free, runs, ended, View, Note as Noted, Event}
+use Rattle.serial.specs.Order.{Done as Fin}
+use Rattle.rules.specs.World.{World, slotRoom, roomSize, roomOf, frontOf, statusAt, badRow, badStore, badLent, badState}
+use Rattle.rules.specs.Book.{Fed, onRecord}
+use Rattle.rules.specs.System.{Place, gate, at, gateBytes, Left, left, system}
+
+abbrev pub lookAt : World → Place → List ℕ
+lookAt w gate = gateBytes (w .hca .«open»)
+lookAt w (at X) = pick (isRecord (w .hca .logs) X) (recordOf (w .hca .logs) X (w .store)) []
+
+abbrev pub slotView : ℕ → List ℕ → Status → Shown system
+slotView k room Free = free
+slotView k room (Running q m) = runs (onRecord q (frontOf k q room)) (left (drop m (burstsOf q)) (roomOf k room))
+slotView k room (Finished q m) = ended (onRecord q (frontOf k q room)) (answerOf q (roomOf k room))
+
+abbrev pub slotAt : World → ℕ → Shown system
+slotAt w k = slotView k (w .room) (statusAt k (w .row))
+
+abbrev pub viewOf : World → View system
+viewOf w = record { look = lookAt w; slot = slotAt w }
+
+-- a call from w to u with this note is an event
+pub record Fine (w u : World) (n : Noted system) : Type 0 where
+  pub ended : List (Fin system)
+  pub event : Event system (viewOf w) (viewOf u) n ended
+
+-- ---- tests
+
+pub either-none : (p q : Bool) → either p q ≡ false → (p ≡ false) × (q ≡ false)
+either-none true q e = absurd (true≢false e)
+either-none false q e = (refl, e)
+
+pub not-no : (b : Bool) → not b ≡ false → b ≡ true
+not-no true e = refl
+not-no false e = absurd (true≢false e)
+
+first : (b x y : Bool) → b ≡ true → pick b x y ≡ false → x ≡ false
+first b x y t e = sym (ap (λ (c : Bool). pick c x y) t) ∙ e
+
+second : (b x y : Bool) → b ≡ false → pick b x y ≡ false → y ≡ false
+second b x y t e = sym (ap (λ (c : Bool). pick c x y) t) ∙ e
+
+-- ---- the lent memory
+
+pub record Sized (w : World) : Type 0 where
+  pub rowed : length (w .row) ≡ 8
+  pub roomed : 2048 ≤ length (w .room)
+
+pub sized : (w : World) → badRow w ≡ false → Sized w
+unfolding badRow
+sized w e =
+    let t = either-none (not (eqb (length (w .row)) 8)) (ltb (length (w .room)) roomSize) e in
+    record { rowed = eqb-true _ _ (not-no _ (t .0)); roomed = ltb-false _ _ (t .1) }
+
+pub lent-sized : (w : World) → badLent w ≡ false → Sized w
+unfolding badLent
+lent-sized w e = sized w (either-none (badRow w) (badStore w) e .0)
+
+pub lent-store : (w : World) → badLent w ≡ false → w .hca .«open» ≡ true → length (w .store) ≡ w .hca .«store_len»
+unfolding badLent badStore
+lent-store w e o =
+    let t = either-none (badRow w) (badStore w) e .1 in
+    let u : both true (not (eqb (length (w .store)) (w .hca .«store_len»))) ≡ false = subst (λ (b : Bool). both b (not (eqb (length (w .store)) (w .hca .«store_len»))) ≡ false) o t in
+    eqb-true _ _ (not-no _ u)
+
+-- ---- the slots
+
+pub any-at : (p : Slot → Bool) (row : List Slot) → anySlot p row ≡ false → p (slot Free) ≡ false → (k : ℕ) → p (getD row k (slot Free)) ≡ false
+unfolding anySlot
+any-at p [] e d k = d
+any-at p (s ∷ row) e d zero = either-none (p s) (anySlot p row) e .0
+any-at p (s ∷ row) e d (suc k) = any-at p row (either-none (p s) (anySlot p row) e .1) d k
+
+-- a slot past the row's end is free
+pub beyond : (w : World) → Sized w → (j : ℕ) → ¬ (j < 8) → getD (w .row) j (slot Free) ≡ slot Free
+beyond w z j n = List·getD-eq-default (w .row) (slot Free) {n = j} (omega (arith, z .rowed))
+
+-- ---- a possible world
+
+pub closed-free : (w : World) → badState w ≡ false → w .hca .«open» ≡ false → (k : ℕ) → statusAt k (w .row) ≡ Free
+unfolding badState impossible statusAt
+closed-free w e o k =
+    free-status (getD (w .row) k (slot Free) .status)
+    (any-at isOccupied (w .row) (second (w .hca .«open») _ _ o e) refl k)
+  where
+    free-status : (s : Status) → Rattle.slots.specs.Rows.occupiedStatus s ≡ false → s ≡ Free
+    free-status Free f = refl
+    free-status (Running q m) f = absurd (true≢false f)
+    free-status (Finished q m) f = absurd (true≢false f)
+
+pub record Possible (w : World) : Type 0 where
+  pub ranges : rangesHold (w .hca .logs) ≡ true
+  pub within : inUse (w .hca .logs) ≤ w .hca .«store_len»
+  pub slots : anySlot (slotWrong (w .hca .logs)) (w .row) ≡ false
+
+pub open-possible : (w : World) → badState w ≡ false → w .hca .«open» ≡ true → Possible w
+unfolding badState impossible fitsStore
+open-possible w e o =
+    let g = w .hca .logs in
+    let row = w .row in
+    let t = either-none _ (either (anySlot (slotWrong g) row) (either (twoCommands row) (holdsClash row))) (first (w .hca .«open») _ _ o e) in
+    let f : both (rangesHold g) (leb (inUse g) (w .hca .«store_len»)) ≡ true = not-no _ (t .0) in
+    record {
+      ranges = both-left (rangesHold g) _ f;
+      within = leb-true _ _ (both-right (rangesHold g) _ f);
+      slots = either-none (anySlot (slotWrong g) row) (either (twoCommands row) (holdsClash row)) (t .1) .0;
+    }
+
+-- a running slot's record is a record of the store, and bursts are left
+pub record Runs (w : World) (q : Request) (m : ℕ) : Type 0 where
+  pub valid : isRecord (w .hca .logs) (touched q) ≡ true
+  pub more : m < totalOf q
+
+pub running : (w : World) → Possible w → (k : ℕ) (q : Request) (m : ℕ) → statusAt k (w .row) ≡ Running q m → Runs w q m
+unfolding statusAt numbersHold
+running w p k q m e =
+    let g = w .hca .logs in
+    let f : statusWrong g (Running q m) ≡ false = subst (λ (s : Status). statusWrong g s ≡ false) e (any-at (slotWrong g) (w .row) (p .slots) refl k) in
+    let t = either-none (not (both (isRecord g (touched q)) (psnHolds q))) (not (ltb m (totalOf q))) f in
+    record { valid = both-left _ _ (not-no _ (t .0)); more = ltb-true _ _ (not-no _ (t .1)) }
+
+-- ---- what is looked at
+
+pub look-valid : (w : World) (X : Record) → isRecord (w .hca .logs) X ≡ true → lookAt w (at X) ≡ recordOf (w .hca .logs) X (w .store)
+look-valid w X e = ap (λ (b : Bool). pick b (recordOf (w .hca .logs) X (w .store)) []) e
+
+pub look-same : (w u : World) → u .hca ≡ w .hca → u .store ≡ w .store → (X : Place) → lookAt u X ≡ lookAt w X
+look-same w u e f gate = ap (λ (h : Hca). gateBytes (h .«open»)) e
+look-same w u e f (at X) = ap₂ (λ (h : Hca) (s : List ℕ). pick (isRecord (h .logs) X) (recordOf (h .logs) X s) []) e f
+
+pub length-look : (w : World) → inUse (w .hca .logs) ≤ length (w .store) → (X : Record) → isRecord (w .hca .logs) X ≡ true → length (lookAt w (at X)) ≡ recordSize X
+unfolding recordOf
+length-look w h X e =
+    ap length (look-valid w X e) ∙ length-part (recordAt (w .hca .logs) X) (recordSize X) (w .store) (omega (arith, record-inside (w .hca .logs) X e))
+
+-- ---- the slots that a call does not name stay
+
+pub others : (w u : World) (k : ℕ) (s : Slot) → Sized w → u .row ≡ set (w .row) k s
+    → ((j : ℕ) → j < 8 → ¬ (j ≡ k) → roomOf j (u .room) ≡ roomOf j (w .room))
+    → ((j : ℕ) (q : Request) → j < 8 → ¬ (j ≡ k) → frontOf j q (u .room) ≡ frontOf j q (w .room))
+    → (j : ℕ) → ¬ (j ≡ k) → slotAt u j ≡ slotAt w j
+unfolding statusAt
+others w u k s z e r f j n = go (decLt j 8)
+  where
+    same : statusAt j (u .row) ≡ statusAt j (w .row)
+    same = ap (λ (l : List Slot). getD l j (slot Free) .status) e ∙ ap (λ (x : Slot). x .status) (getD-set-other (w .row) k j s (slot Free) n)
+
+    free-both : (room room′ : List ℕ) (t : Status) → t ≡ Free → slotView j room t ≡ slotView j room′ t
+    free-both room room′ t h = rw h
+
+    views : j < 8 → (t : Status) → slotView j (u .room) t ≡ slotView j (w .room) t
+    views h Free = refl
+    views h (Running q m) = ap₂ (λ (x y : List ℕ). runs (onRecord q x) (left (drop m (burstsOf q)) y)) (f j q h n) (r j h n)
+    views h (Finished q m) = ap₂ (λ (x y : List ℕ). ended (onRecord q x) (answerOf q y)) (f j q h n) (r j h n)
+
+    go : Dec (j < 8) → slotAt u j ≡ slotAt w j
+    go (yes h) = ap (slotView j (u .room)) same ∙ views h (statusAt j (w .row))
+    go (no h) = ap (slotView j (u .room)) same ∙ free-both (u .room) (w .room) (statusAt j (w .row)) (ap (λ (x : Slot). x .status) (beyond w z j h))
+
+-- a slot that is occupied is one of the eight
+pub in-row : (w : World) → Sized w → (k : ℕ) → ¬ (statusAt k (w .row) ≡ Free) → k < 8
+unfolding statusAt
+in-row w z k n = go (decLt k 8)
+  where
+    go : Dec (k < 8) → k < 8
+    go (yes h) = h
+    go (no h) = absurd (n (ap (λ (x : Slot). x .status) (beyond w z k h)))
