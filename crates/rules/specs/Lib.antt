@@ -24,3 +24,6 @@ pub mod Found
 pub mod Events
 pub mod Started
 pub mod Serial
+pub mod Frame
+pub mod Demand2
+pub mod Edges

@@ -278,6 +278,25 @@ module _ (w : World) (z : Sized w) (fits : inUse (w .hca .logs) ≤ length (w .s
           ∙ subst (λ (b : Bool). MidOf b q mail (left (drop m (burstsOf q)) buf) (t (at (touched q))) (lookAt w (at (touched q)))) rd x));
     }
 
+  -- the records after the burst: the request's own, and every other
+  pub own-record : lookAt (moved w k q m) (at (touched q))
+      ≡ pick (writesOf q) (burst (byteOf q (frontOf k q (w .room))) (getD (burstsOf q) m 0) (lookAt w (at (touched q)))) (lookAt w (at (touched q)))
+  unfolding u j mail
+  own-record = go (writesOf q) refl
+    where
+      go : (b : Bool) → writesOf q ≡ b
+          → lookAt (moved w k q m) (at (touched q)) ≡ pick b (burst (byteOf q (frontOf k q (w .room))) (getD (burstsOf q) m 0) (lookAt w (at (touched q)))) (lookAt w (at (touched q)))
+      go true wr = put wr
+      go false rd = sym (same rd (at (touched q)))
+
+  pub other-record : (X : Record) → ¬ (touched q ≡ X) → lookAt (moved w k q m) (at X) ≡ lookAt w (at X)
+  unfolding u mail
+  other-record X n = go (writesOf q) refl
+    where
+      go : (b : Bool) → writesOf q ≡ b → lookAt (moved w k q m) (at X) ≡ lookAt w (at X)
+      go true wr = sym (elsewhere wr (at X) (λ y. n (sym (y .1))))
+      go false rd = sym (same rd (at X))
+
   by-kind : (b : Bool) → writesOf q ≡ b → Dec (m + 1 < totalOf q) → Fine w u nothing
   by-kind true wr (yes h) = writer-step wr h
   by-kind true wr (no h) = writer-last wr (omega arith)

@@ -1,0 +1,71 @@
+-- DEMAND 2, the edges: "A queue pair's state moves only along permitted edges."
+--
+-- What is claimed, and of what: after every initialisation and every list of calls, of the next call, whatever it is but another
+-- initialisation or reset that answers 0: the state code of every queue pair stays, or the call is the first step of a running
+-- request on that queue pair, and the state moves along an edge that is permitted, from the state code and for the service type that
+-- the record has just before the step, for that request.
+use mathlib.Core.Path.{_≡_, refl, sym, _∙_, ap, subst}
+use mathlib.Core.Bool.{Bool, true, false, not, true≢false, false≢true}
+use mathlib.Core.List.{List, [], _∷_}
+use mathlib.Core.Logic.{_⊎_, inl, inr}
+use Prim.Native.Nat.{ℕ, zero, suc, _+_, _*_, _/_, _≤_, _<_}
+use native.Mathlib.Decide.{decLt, ℕ-discrete}
+use native.Mathlib.Omega.{arith}
+use lib.Dec.{ltb}
+use lib.ListN.{length, getD, set}
+use lib.Seq.{getD-set-same, getD-set-other, set-out}
+use Rattle.words.specs.Choice.{pick, by-pick}
+use Rattle.context.specs.Layout.{isRecord, recordOf}
+use Rattle.context.specs.declared.QpNumber.{QpNumber}
+use Rattle.context.specs.declared.Record.{Record}
+use Rattle.context.specs.declared.Record.the-variants as rec
+use Rattle.edges.specs.States.{stateCode}
+use Rattle.edges.specs.Edges.{toOf, permits, judgeOf}
+use Rattle.edges.specs.declared.Move.the-variants as move
+use Rattle.edges.specs.declared.Verdict.{Verdict}
+use Rattle.edges.specs.declared.Verdict.the-variants.{Permitted, NotPermitted}
+use Rattle.requests.specs.declared.Command.the-variants as command
+use Rattle.requests.specs.declared.Engine.the-variants as engine
+use Rattle.requests.specs.declared.Request.{Request}
+use Rattle.requests.specs.declared.Request.the-variants as request
+use Rattle.tables.specs.Records.{recordOf as touched, writesOf}
+use Rattle.effects.specs.Fields.{stateOf, serviceOf}
+use Rattle.effects.specs.Permission.{permissionOf}
+use Rattle.slots.specs.declared.Status.{Status}
+use Rattle.slots.specs.declared.Status.the-variants.{Free, Running, Finished}
+use Rattle.rules.specs.World.{World, statusAt}
+use Rattle.rules.specs.Commands.{submitCommand}
+use Rattle.rules.specs.Calls.{Call, step, worldAfter, startsAgain, initialises}
+use Rattle.rules.specs.Demand3.{Run, runFrom}
+
+-- a request moves a queue pair's state from this code, for this service type, to the next code along an edge that is permitted for it
+abbrev pub Along : Request → ℕ → ℕ → ℕ → Type 0
+Along (request.Command (command.Sw2Hw o)) code service next = ⊥
+Along (request.Command (command.Hw2Sw o)) code service next = ⊥
+Along (request.Command (command.ResizeCq n)) code service next = ⊥
+Along (request.Command (command.QueryQp n)) code service next = ⊥
+Along (request.Command (command.ModifyQp e n)) code service next = (permits (move.Command e) code service ≡ true) × (next ≡ stateCode (toOf e))
+Along (request.Engine (engine.ReadState n)) code service next = ⊥
+Along (request.Engine (engine.ReadNext n)) code service next = ⊥
+Along (request.Engine (engine.ReadAll n)) code service next = ⊥
+Along (request.Engine (engine.Write p n psn s)) code service next = (permits (move.Engine s) code service ≡ true) × (next ≡ stateCode s)
+
+-- what a call makes of a queue pair's state
+pub data StateMove (w : World) (c : Call) (X : Record) (code service next : ℕ) : Type 0 where
+  stays : next ≡ code → StateMove w c X code service next
+  moves : (k : ℕ) (q : Request) → c ≡ step k → statusAt k (w .row) ≡ Running q 0 → touched q ≡ X → Along q code service next
+      → StateMove w c X code service next
+
+abbrev pub Demand2 : World → Call → Type 0
+Demand2 w c =
+    (n : QpNumber) → isRecord (w .hca .logs) (rec.Qp n) ≡ true
+    → let before : List ℕ = recordOf (w .hca .logs) (rec.Qp n) (w .store) in
+    let after : List ℕ = recordOf (w .hca .logs) (rec.Qp n) (worldAfter w c .store) in
+    StateMove w c (rec.Qp n) (stateOf before) (serviceOf before) (stateOf after)
+
+abbrev pub Statement : Type 0
+Statement =
+    (before : World) (bytes mail : List ℕ) → initialises before bytes mail ≡ true
+    → (calls : List Call) (last : Call)
+    → let end : World = runFrom (submitCommand before bytes mail .world) [] calls .world in
+    startsAgain end last ≡ false → Demand2 end last
