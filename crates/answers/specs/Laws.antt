@@ -2,12 +2,14 @@
 use mathlib.Core.Path.{_≡_, refl, sym, _∙_, ap}
 use mathlib.Core.List.{List, [], _∷_}
 use mathlib.Core.Logic.{inl, inr}
-use Prim.Native.Nat.{ℕ, zero, suc, _+_, _*_, _≤_, _<_}
+use Prim.Native.Nat.{ℕ, zero, suc, _+_, _*_, _/_, _%_, _≤_, _<_}
 use native.Mathlib.Decide.{decLt}
 use native.Mathlib.Omega.{arith}
 use lib.ListN.{length, getD, set}
 use lib.Seq.{ext-getD}
-use Rattle.words.specs.Parts.{part, splice, length-part, getD-part}
+use Rattle.words.specs.Parts.{part, splice, length-part, getD-part, part-part}
+use Rattle.words.specs.Words.{bits, AreBytes, be32, beBytes}
+use Rattle.words.specs.Leaves.{le-four, part-four, be32-is}
 use Rattle.requests.specs.declared.Command.{Command}
 use Rattle.requests.specs.declared.Command.the-variants as command
 use Rattle.requests.specs.declared.Engine.{Engine}
@@ -58,6 +60,23 @@ length-engine (engine.Write w n psn s) p h = refl
 pub length-answer : (q : Request) (p : List ℕ) → 256 ≤ length p → length (answerOf q p) ≡ answerSize q
 length-answer (request.Command c) p h = length-command c p h
 length-answer (request.Engine e) p h = length-engine e p h
+
+three-bytes : (x y z : ℕ) → x < 256 → y < 256 → z < 256 → beBytes 3 (z + y * 0x100 + x * 0x10000) ≡ x ∷ y ∷ z ∷ []
+unfolding beBytes
+three-bytes x y z h i j =
+    let e : (z + y * 0x100 + x * 0x10000) / 0x10000 % 256 ≡ x = omega arith in
+    let f : (z + y * 0x100 + x * 0x10000) / 0x100 % 256 ≡ y = omega arith in
+    let g : (z + y * 0x100 + x * 0x10000) / 1 % 256 ≡ z = omega arith in
+    rw (e, f, g)
+
+-- of bytes, the three behind a word's first are its low 24 bits, high byte first: so request 2 answers "the low 24 bits" of word 6Ch
+pub psn-bytes : (at : ℕ) (p : List ℕ) → AreBytes p → at + 4 ≤ length p → part (at + 1) 3 p ≡ beBytes 3 (bits 23 0 (be32 at p))
+unfolding part bits
+psn-bytes at p a h =
+    let w : bits 23 0 (be32 at p) ≡ getD p (at + 3) 0 + getD p (at + 2) 0 * 0x100 + getD p (at + 1) 0 * 0x10000 =
+    rw (← be32-is at p h, le-four) (omega (arith, a at, a (at + 1), a (at + 2), a (at + 3))) in
+    sym (part-part at 4 1 3 p h (omega arith)) ∙ ap (part 1 3) (part-four at p h)
+    ∙ sym (three-bytes _ _ _ (a (at + 1)) (a (at + 2)) (a (at + 3))) ∙ ap (beBytes 3) (sym w)
 
 -- p and c agree at every byte that lies in one of the bursts
 abbrev pub AgreeOn : List ℕ → List ℕ → List ℕ → Type 0
