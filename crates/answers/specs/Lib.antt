@@ -1,2 +1,4 @@
 -- The answer that collecting a request writes.
 pub mod Answers
+pub mod Touched
+pub mod Laws
