@@ -2,3 +2,4 @@
 pub mod Taken
 pub mod Bytes
 pub mod Moves
+pub mod Leaves
