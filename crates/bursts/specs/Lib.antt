@@ -3,3 +3,7 @@ pub mod Taken
 pub mod Bytes
 pub mod Moves
 pub mod Leaves
+pub mod Bursts
+pub mod Copies
+pub mod Table
+pub mod Effects
