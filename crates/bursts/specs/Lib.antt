@@ -7,3 +7,5 @@ pub mod Bursts
 pub mod Copies
 pub mod Table
 pub mod Effects
+pub mod Store
+pub mod Examples
