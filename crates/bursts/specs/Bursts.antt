@@ -107,12 +107,14 @@ pub length-after : (f : ℕ → ℕ → ℕ) (js c : List ℕ) → Fit (length c
 length-after f [] c h = refl
 length-after f (j ∷ js) c h = length-after f js (burst f j c) (fit-on f j js c h) ∙ length-burst f j c (h .0)
 
-pub after-out : (f : ℕ → ℕ → ℕ) (js c : List ℕ) → Fit (length c) js → (i : ℕ) → ¬ Touched i js → getD (after f js c) i 0 ≡ getD c i 0
+pub after-out : (f : ℕ → ℕ → ℕ) (js c : List ℕ) → Fit (length c) js → (i : ℕ) → ¬ Touched i js
+    → getD (after f js c) i 0 ≡ getD c i 0
 after-out f [] c h i n = refl
 after-out f (j ∷ js) c h i n =
     after-out f js (burst f j c) (fit-on f j js c h) i (λ t. n (inr t)) ∙ burst-out f j c (h .0) i (λ w. n (inl w))
 
-pub after-in : (f : ℕ → ℕ → ℕ) (js c : List ℕ) → Fit (length c) js → Distinct js → (i : ℕ) → Touched i js → getD (after f js c) i 0 ≡ f i (getD c i 0)
+pub after-in : (f : ℕ → ℕ → ℕ) (js c : List ℕ) → Fit (length c) js → Distinct js → (i : ℕ) → Touched i js
+    → getD (after f js c) i 0 ≡ f i (getD c i 0)
 after-in f [] c h d i t = absurd t
 after-in f (j ∷ js) c h d i (inl w) =
     after-out f js (burst f j c) (fit-on f j js c h) i (fresh-out i j js w (d .0)) ∙ burst-in f j c (h .0) i w

@@ -1,14 +1,14 @@
 -- A record that is read burst by burst: once all are copied, the buffer has the record's bytes.
 use mathlib.Core.Path.{_≡_, refl, sym, _∙_, ap, subst}
 use mathlib.Core.List.{List, [], _∷_}
-use mathlib.Core.Logic.{_⊎_, inl, inr}
+use mathlib.Core.Logic.{inl, inr}
 use Prim.Native.Nat.{ℕ, suc, _+_, _*_, _-_, _≤_, _<_}
 use native.Mathlib.Decide.{decLt}
 use native.Mathlib.Omega.{arith}
 use lib.ListN.{length, getD, drop}
-use lib.Seq.{drop-cons}
+use lib.Seq.{ext-getD, drop-cons}
 use Rattle.words.specs.Parts.{part, splice, length-part, getD-part, length-splice, splice-below, splice-in, splice-above}
-use Rattle.bursts.specs.Bursts.{Inside, Touched, Fit, inside?, touched?}
+use Rattle.bursts.specs.Bursts.{Inside, Touched, Fit, inside?}
 
 -- "A read burst is copied to the offset in that part which it has in the record": burst j of the record c goes to the buffer
 abbrev pub copy : ℕ → List ℕ → List ℕ → List ℕ
@@ -52,7 +52,8 @@ length-copies [] c buf h k = refl
 length-copies (j ∷ js) c buf h k = length-copies js c (copy j c buf) (h .1) (fit-on j js c buf h k) ∙ length-copy j c buf (h .0) (k .0)
 
 -- a byte of the buffer that is the record's stays the record's
-pub copies-same : (js c buf : List ℕ) → Fit (length c) js → Fit (length buf) js → (i : ℕ) → getD buf i 0 ≡ getD c i 0 → getD (copies js c buf) i 0 ≡ getD c i 0
+pub copies-same : (js c buf : List ℕ) → Fit (length c) js → Fit (length buf) js
+    → (i : ℕ) → getD buf i 0 ≡ getD c i 0 → getD (copies js c buf) i 0 ≡ getD c i 0
 copies-same [] c buf h k i e = e
 copies-same (j ∷ js) c buf h k i e = copies-same js c (copy j c buf) (h .1) (fit-on j js c buf h k) i (go (inside? i j))
   where
@@ -61,17 +62,31 @@ copies-same (j ∷ js) c buf h k i e = copies-same js c (copy j c buf) (h .1) (f
     go (no w) = copy-out j c buf (h .0) (k .0) i w ∙ e
 
 -- every byte that was copied is the record's
-pub copies-in : (js c buf : List ℕ) → Fit (length c) js → Fit (length buf) js → (i : ℕ) → Touched i js → getD (copies js c buf) i 0 ≡ getD c i 0
+pub copies-in : (js c buf : List ℕ) → Fit (length c) js → Fit (length buf) js
+    → (i : ℕ) → Touched i js → getD (copies js c buf) i 0 ≡ getD c i 0
 copies-in [] c buf h k i t = absurd t
 copies-in (j ∷ js) c buf h k i (inl w) =
     copies-same js c (copy j c buf) (h .1) (fit-on j js c buf h k) i (copy-in j c buf (h .0) (k .0) i w)
 copies-in (j ∷ js) c buf h k i (inr t) = copies-in js c (copy j c buf) (h .1) (fit-on j js c buf h k) i t
 
 -- "No other room byte changes"
-pub copies-out : (js c buf : List ℕ) → Fit (length c) js → Fit (length buf) js → (i : ℕ) → ¬ Touched i js → getD (copies js c buf) i 0 ≡ getD buf i 0
+pub copies-out : (js c buf : List ℕ) → Fit (length c) js → Fit (length buf) js
+    → (i : ℕ) → ¬ Touched i js → getD (copies js c buf) i 0 ≡ getD buf i 0
 copies-out [] c buf h k i n = refl
 copies-out (j ∷ js) c buf h k i n =
     copies-out js c (copy j c buf) (h .1) (fit-on j js c buf h k) i (λ t. n (inr t)) ∙ copy-out j c buf (h .0) (k .0) i (λ w. n (inl w))
+
+-- bursts that touch every byte of a record copy it whole
+pub copies-all : (js c buf : List ℕ) → Fit (length c) js → length buf ≡ length c
+    → ((i : ℕ) → i < length c → Touched i js) → copies js c buf ≡ c
+copies-all js c buf h e t =
+    ext-getD 0 (copies js c buf) c same (λ i l. copies-in js c buf h room i (t i (omega (arith, same))))
+  where
+    room : Fit (length buf) js
+    room = subst (λ (n : ℕ). Fit n js) (sym e) h
+
+    same : length (copies js c buf) ≡ length c
+    same = length-copies js c buf h room ∙ e
 
 -- burst m is the next one after m bursts
 pub copies-next : (js : List ℕ) (m : ℕ) (c buf : List ℕ) → m < length js

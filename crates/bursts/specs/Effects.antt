@@ -1,15 +1,13 @@
 -- What the byte rule leaves of a record: a reader leaves all of it, a writer all outside its bursts, and a write that sets a
 -- state leaves that state. So the bursts of a request are its whole effect (`writes-whole`).
 use mathlib.Core.Path.{_≡_, refl, sym, _∙_, ap}
-use mathlib.Core.Bool.{Bool, true, false, false≢true}
-use mathlib.Core.List.{List, [], _∷_}
-use mathlib.Core.Logic.{_⊎_, inl, inr}
-use Prim.Native.Nat.{ℕ, _+_, _*_, _/_, _%_, _≤_, _<_}
+use mathlib.Core.Bool.{true, false, false≢true}
+use mathlib.Core.List.{List}
+use mathlib.Core.Logic.{inl, inr}
+use Prim.Native.Nat.{ℕ, _+_, _/_, _≤_, _<_}
 use native.Mathlib.Omega.{arith}
 use borrow.Author.Tests.{ne-eqb}
-use lib.Dec.{eqb}
 use lib.ListN.{length, getD}
-use Rattle.words.specs.Choice.{pick}
 use Rattle.words.specs.Maps.{mapFrom, getD-mapFrom}
 use Rattle.context.specs.Layout.{recordSize}
 use Rattle.edges.specs.States.{stateCode}
@@ -60,7 +58,9 @@ psn-inside Expected i h k = (omega arith, omega arith)
 
 write-kept : (p : Psn) (psn : ℕ) (s : State) (i b : ℕ) → ¬ Touched i (psnBursts p) → writeByte p psn s i b ≡ b
 unfolding writeByte
-write-kept p psn s i b n = state-kept s i (psnByte (psnPlace p) psn i b) front ∙ psn-kept (psnPlace p) psn i b (off 1 (omega arith)) (off 2 (omega arith)) (off 3 (omega arith))
+write-kept p psn s i b n =
+    state-kept s i (psnByte (psnPlace p) psn i b) front
+    ∙ psn-kept (psnPlace p) psn i b (off 1 (omega arith)) (off 2 (omega arith)) (off 3 (omega arith))
   where
     front : ¬ (i ≡ 0)
     front e = n (inl (omega (arith, e), omega (arith, e)))

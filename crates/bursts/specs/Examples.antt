@@ -13,6 +13,7 @@ use Rattle.bursts.specs.Bytes.{withState, psnByte, writeByte}
 use Rattle.bursts.specs.Moves.{writtenPart}
 
 -- "P12 word 84h 0x07000010, expected PSN 0x20 written: 0x07000020."
-pub p12 : (n : QpNumber) (s : State) (mail : List ℕ) → beValue (writtenPart (request.Engine (engine.Write Expected n 0x20 s)) mail 0x84 (beBytes 4 0x07000010)) ≡ 0x07000020
+pub p12 : (n : QpNumber) (s : State) (mail : List ℕ)
+    → beValue (writtenPart (request.Engine (engine.Write Expected n 0x20 s)) mail 0x84 (beBytes 4 0x07000010)) ≡ 0x07000020
 unfolding beValue beBytes writtenPart mapFrom writeByte withState psnByte
 p12 n s mail = refl

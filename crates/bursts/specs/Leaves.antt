@@ -1,7 +1,7 @@
 -- What the code of the leaves meets: the byte rule reads inside the needed mailbox bytes, and a lent part leaves a burst.
 use mathlib.Core.Path.{_≡_, refl, sym, _∙_, ap}
 use mathlib.Core.Bool.{Bool, true, false, false≢true}
-use mathlib.Core.List.{List, [], _∷_, _++_, append-nil}
+use mathlib.Core.List.{List, _++_, append-nil}
 use Prim.Native.Nat.{ℕ, _+_, _-_, _*_, _/_, _≤_, _<_}
 use native.Mathlib.Nat.{add-sub-cancel-left, zero-add}
 use native.Mathlib.Omega.{arith}
@@ -11,7 +11,7 @@ use lib.ListN.{length, take, drop}
 use lib.Seq.{drop-length}
 use Rattle.words.specs.Choice.{pick-no, either, within, both-left, both-right}
 use Rattle.words.specs.Parts.{part, splice, length-part, lent-splice}
-use Rattle.words.specs.Maps.{mapFrom, length-mapFrom}
+use Rattle.words.specs.Maps.{length-mapFrom}
 use Rattle.edges.specs.States.{stateCode}
 use Rattle.edges.specs.Edges.{toOf}
 use Rattle.edges.specs.declared.State.{State}

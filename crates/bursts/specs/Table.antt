@@ -1,14 +1,15 @@
 -- The burst table keeps to its records: for every request, its bursts fit and none comes twice, and its offsets, total and
 -- mailbox are small.
-use mathlib.Core.Path.{_≡_, refl, sym, _∙_, ap}
-use mathlib.Core.Bool.{Bool, true, false, false≢true}
+use mathlib.Core.Path.{_≡_, refl, sym}
+use mathlib.Core.Bool.{true, false, false≢true}
 use mathlib.Core.List.{List, [], _∷_}
-use mathlib.Core.Logic.{_⊎_, inl, inr}
-use Prim.Native.Nat.{ℕ, zero, suc, _+_, _*_, _/_, _≤_, _<_}
+use mathlib.Core.Logic.{inl, inr}
+use Prim.Native.Nat.{ℕ, zero, suc, _+_, _*_, _≤_, _<_}
 use native.Mathlib.Decide.{decLt}
 use native.Mathlib.Omega.{arith}
-use lib.Dec.{lit≤, lit<}
-use lib.ListN.{length, getD}
+use lib.Dec.{lit≤}
+use lib.ListN.{length, getD, drop}
+use lib.Seq.{drop-length}
 use Rattle.context.specs.Layout.{recordSize}
 use Rattle.edges.specs.declared.Edge.{Edge}
 use Rattle.edges.specs.declared.Edge.the-variants.{ResetToInit, InitToInit, InitToRtr, RtrToRts, RtsToRts, SqeToRts, RtsToSqd, SqdToSqd, SqdToRts, ToErr, ToReset}
@@ -22,7 +23,7 @@ use Rattle.requests.specs.declared.Request.{Request}
 use Rattle.requests.specs.declared.Request.the-variants as request
 use Rattle.tables.specs.Records.{ownedRecord, recordOf, writesOf}
 use Rattle.tables.specs.Mailboxes.{storedOf, edgeNeed, needOf}
-use Rattle.tables.specs.Bursts.{psnPlace, burstsFrom, psnBursts, burstsOf, totalOf, offsetOf}
+use Rattle.tables.specs.Bursts.{burstsFrom, psnBursts, burstsOf, totalOf, offsetOf}
 use Rattle.bursts.specs.Bursts.{Touched, Fit, Fresh, Distinct, fit-at}
 
 -- Bursts in a row: those of a record that is moved whole.
@@ -112,6 +113,10 @@ bursts-once (request.Engine (engine.Write p n psn s)) = psn-once p
 pub total-bursts : (q : Request) → totalOf q ≡ length (burstsOf q)
 total-bursts (request.Command c) = refl
 total-bursts (request.Engine e) = refl
+
+-- no burst is left after the last
+pub bursts-end : (q : Request) → drop (totalOf q) (burstsOf q) ≡ []
+bursts-end q = rw (total-bursts q) (drop-length (burstsOf q))
 
 pub offset-burst : (q : Request) (m : ℕ) → offsetOf q m ≡ 16 * getD (burstsOf q) m 0
 offset-burst (request.Command c) m = omega arith
