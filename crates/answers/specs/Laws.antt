@@ -18,7 +18,7 @@ use Rattle.requests.specs.declared.Request.{Request}
 use Rattle.requests.specs.declared.Request.the-variants as request
 use Rattle.tables.specs.Bursts.{burstSize, burstsFrom, commandBursts, engineBursts, burstsOf}
 use Rattle.effects.specs.Fields.{stateOf}
-use Rattle.answers.specs.Touched.{Touched}
+use Rattle.tables.specs.Touched.{Touched}
 use Rattle.answers.specs.Answers.{stateAnswer, nextAnswer, wholeAnswer, commandAnswer, engineAnswer, answerOf, commandAnswerSize, engineAnswerSize, answerSize}
 
 -- an answer of no bytes leaves the output

@@ -1,4 +1,3 @@
 -- The answer that collecting a request writes.
 pub mod Answers
-pub mod Touched
 pub mod Laws

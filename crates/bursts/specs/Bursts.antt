@@ -11,15 +11,7 @@ use lib.ListN.{length, getD, drop}
 use lib.Seq.{ext-getD, drop-cons}
 use Rattle.words.specs.Parts.{part, splice, length-part, getD-part, length-splice, splice-below, splice-in, splice-above}
 use Rattle.words.specs.Maps.{mapFrom, length-mapFrom, getD-mapFrom}
-
--- byte i lies in burst j
-abbrev pub Inside : ℕ → ℕ → Type 0
-Inside i j = (16 * j ≤ i) × (i < 16 * j + 16)
-
--- byte i lies in one of the bursts
-abbrev pub Touched : ℕ → List ℕ → Type 0
-Touched i [] = ⊥
-Touched i (j ∷ js) = Inside i j ⊎ Touched i js
+use Rattle.tables.specs.Touched.{Inside, Touched}
 
 -- every burst lies in n bytes
 abbrev pub Fit : ℕ → List ℕ → Type 0

@@ -24,7 +24,8 @@ use Rattle.requests.specs.declared.Request.the-variants as request
 use Rattle.tables.specs.Records.{ownedRecord, recordOf, writesOf}
 use Rattle.tables.specs.Mailboxes.{storedOf, edgeNeed, needOf}
 use Rattle.tables.specs.Bursts.{burstsFrom, psnBursts, burstsOf, totalOf, offsetOf}
-use Rattle.bursts.specs.Bursts.{Touched, Fit, Fresh, Distinct, fit-at}
+use Rattle.tables.specs.Touched.{Touched}
+use Rattle.bursts.specs.Bursts.{Fit, Fresh, Distinct, fit-at}
 
 -- Bursts in a row: those of a record that is moved whole.
 pub row-fit : (s n m : ℕ) → 16 * (s + n) ≤ m → Fit m (burstsFrom s n)

@@ -2,3 +2,4 @@
 pub mod Records
 pub mod Mailboxes
 pub mod Bursts
+pub mod Touched
