@@ -1,2 +1,3 @@
 -- The answer that collecting a request writes.
 pub mod Answers
+pub mod Laws

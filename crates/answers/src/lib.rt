@@ -1,1 +1,104 @@
-// The answers.
+// The answer that collecting a request writes, read from the slot's part of the room. Every function
+// here is a leaf: its callers have tested the lengths.
+use requests::Command;
+use requests::Engine;
+use requests::Request;
+ghost use mathlib.Core.Path.{_≡_};
+ghost use Prim.Native.Nat.{_≤_};
+ghost use lib.ListN.{length};
+ghost use Rattle.words.specs.Parts.{splice};
+ghost use Rattle.answers.specs.Answers.{stateAnswer, nextAnswer, wholeAnswer, commandAnswer, engineAnswer, answerOf, commandAnswerSize, engineAnswerSize, answerSize};
+
+fn command_answer_size(command: Command) -> usize
+    ensures { λ r. ⌜ r ≡ commandAnswerSize command ⌝ }
+{
+    match command {
+        Command::Sw2Hw(_) => 0,
+        Command::Hw2Sw(_) => 0,
+        Command::ResizeCq(_) => 0,
+        Command::QueryQp(_) => 256,
+        Command::ModifyQp(_, _) => 0,
+    }
+}
+
+fn engine_answer_size(engine: Engine) -> usize
+    ensures { λ r. ⌜ r ≡ engineAnswerSize engine ⌝ }
+{
+    match engine {
+        Engine::ReadState(_) => 1,
+        Engine::ReadNext(_) => 4,
+        Engine::ReadAll(_) => 256,
+        Engine::Write(_, _, _, _) => 0,
+    }
+}
+
+// How many bytes a request's answer has.
+pub fn answer_size(request: Request) -> usize
+    ensures { λ r. ⌜ r ≡ answerSize request ⌝ }
+{
+    match request {
+        Request::Command(command) => command_answer_size(command),
+        Request::Engine(engine) => engine_answer_size(engine),
+    }
+}
+
+// The state code.
+fn state_answer(room: &[u8], out: &mut [u8])
+    requires { ⌜ (256 ≤ length (now room)) × (1 ≤ length (now out)) ⌝ }
+    ensures { λ _. ⌜ now (out .exit) ≡ splice 0 (stateAnswer (now (room .entry))) (now (out .entry)) ⌝ }
+{
+    out[0] = effects::state_code(room);
+}
+
+// The state code, then the next PSN, high byte first: as it stands in its word.
+fn next_answer(room: &[u8], out: &mut [u8])
+    requires { ⌜ (256 ≤ length (now room)) × (4 ≤ length (now out)) ⌝ }
+    ensures { λ _. ⌜ now (out .exit) ≡ splice 0 (nextAnswer (now (room .entry))) (now (out .entry)) ⌝ }
+{
+    out[0] = effects::state_code(room);
+    words::copy_to(&room[0x6d..0x70], out, 1);
+}
+
+// The whole record.
+fn whole_answer(room: &[u8], out: &mut [u8])
+    requires { ⌜ (256 ≤ length (now room)) × (256 ≤ length (now out)) ⌝ }
+    ensures { λ _. ⌜ now (out .exit) ≡ splice 0 (wholeAnswer (now (room .entry))) (now (out .entry)) ⌝ }
+{
+    words::copy_to(&room[0..256], out, 0);
+}
+
+fn command_answer(command: Command, room: &[u8], out: &mut [u8])
+    requires { ⌜ (256 ≤ length (now room)) × (commandAnswerSize command ≤ length (now out)) ⌝ }
+    ensures { λ _. ⌜ now (out .exit) ≡ splice 0 (commandAnswer command (now (room .entry))) (now (out .entry)) ⌝ }
+{
+    match command {
+        Command::Sw2Hw(_) => {}
+        Command::Hw2Sw(_) => {}
+        Command::ResizeCq(_) => {}
+        Command::QueryQp(_) => whole_answer(room, out),
+        Command::ModifyQp(_, _) => {}
+    }
+}
+
+fn engine_answer(engine: Engine, room: &[u8], out: &mut [u8])
+    requires { ⌜ (256 ≤ length (now room)) × (engineAnswerSize engine ≤ length (now out)) ⌝ }
+    ensures { λ _. ⌜ now (out .exit) ≡ splice 0 (engineAnswer engine (now (room .entry))) (now (out .entry)) ⌝ }
+{
+    match engine {
+        Engine::ReadState(_) => state_answer(room, out),
+        Engine::ReadNext(_) => next_answer(room, out),
+        Engine::ReadAll(_) => whole_answer(room, out),
+        Engine::Write(_, _, _, _) => {}
+    }
+}
+
+// Writes a request's answer to the front of `out`, from `room`, the slot's part of the room.
+pub fn write_answer(request: Request, room: &[u8], out: &mut [u8])
+    requires { ⌜ (256 ≤ length (now room)) × (answerSize request ≤ length (now out)) ⌝ }
+    ensures { λ _. ⌜ now (out .exit) ≡ splice 0 (answerOf request (now (room .entry))) (now (out .entry)) ⌝ }
+{
+    match request {
+        Request::Command(command) => command_answer(command, room, out),
+        Request::Engine(engine) => engine_answer(engine, room, out),
+    }
+}

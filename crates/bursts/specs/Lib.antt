@@ -2,3 +2,10 @@
 pub mod Taken
 pub mod Bytes
 pub mod Moves
+pub mod Leaves
+pub mod Bursts
+pub mod Copies
+pub mod Table
+pub mod Effects
+pub mod Store
+pub mod Examples

@@ -1,12 +1,12 @@
 -- The fields of a record that a decision is made by.
-use mathlib.Core.Path.{_≡_, refl, sym, _∙_, ap}
+use mathlib.Core.Path.{_≡_}
 use mathlib.Core.Bool.{Bool}
-use mathlib.Core.List.{List, [], _∷_}
-use Prim.Native.Nat.{ℕ, _+_, _*_, _/_, _%_, _≤_}
+use mathlib.Core.List.{List}
+use Prim.Native.Nat.{ℕ, _/_, _≤_}
 use native.Mathlib.Omega.{arith}
 use lib.Dec.{eqb}
 use lib.ListN.{length, getD}
-use Rattle.words.specs.Words.{bits, AreBytes, leValue, be32}
+use Rattle.words.specs.Words.{bits, AreBytes, be32}
 use Rattle.words.specs.Leaves.{le-four, be32-is}
 
 -- "word 00h has the state in 31:28 and the service type in 23:16": words are big-endian, so these are the top half of byte

@@ -1,5 +1,4 @@
 -- Whether a record's contents permit a request: the owner rule and the decision on edges.
-use mathlib.Core.Bool.{Bool, true, false}
 use mathlib.Core.List.{List}
 use Rattle.words.specs.Choice.{pick}
 use Rattle.edges.specs.Edges.{judgeOf}

@@ -1,27 +1,20 @@
+-- `effects::content_holds` meets its contract.
 use borrow.Author.Needs.{needs}
 use Rattle.effects.proofs.content_holds.Statement.{statement}
 use Rattle.effects.proofs.content_holds.Tie as tie
-use Rattle.effects.proofs.content_holds.Reads as reads
-use Rattle.effects.proofs.content_holds.Lts as lts
-use Rattle.effects.proofs.command_content.Reads as command-content-reads
 
--- src/lib.rt:179:26
 enum-known-request : tie.Need-enum-known-request
 enum-known-request c = search needs
 
--- src/lib.rt:179:38
 command-content-requires : tie.Need-command-content-requires
-command-content-requires c κs = ?
+command-content-requires c κs = rw (c .before .request .given .1) at (c .before .before .before .before .pre)
 
--- src/lib.rt:180:31
 enum-told : tie.Need-enum-told
 enum-told c = search needs
 
--- src/lib.rt:174:1
 returns : tie.Need-returns
-returns c = ?
+returns c = rw (c .before .before .request .given .1) (c .command-content .ensures)
 
--- src/lib.rt:174:1
 returns-2 : tie.Need-returns-2
 returns-2 c = search needs
 

@@ -1,21 +1,17 @@
+-- `effects::hardware_only` meets its contract.
+use Rattle.words.specs.Choice.{cases}
 use borrow.Author.Needs.{needs}
 use Rattle.effects.proofs.hardware_only.Statement.{statement}
 use Rattle.effects.proofs.hardware_only.Tie as tie
-use Rattle.effects.proofs.hardware_only.Reads as reads
-use Rattle.effects.proofs.hardware_only.Lts as lts
-use Rattle.effects.proofs.is_hardware.Reads as is-hardware-reads
 
--- src/lib.rt:67:8
 is-hardware-requires : tie.Need-is-hardware-requires
 is-hardware-requires c κs = search needs
 
--- src/lib.rt:68:9
 returns : tie.Need-returns
-returns c = ?
+returns c = search cases
 
--- src/lib.rt:63:1
 returns-2 : tie.Need-returns-2
-returns-2 c = ?
+returns-2 c = search cases
 
 pub hardware-only-spec : {M : Type 1} → statement M
 hardware-only-spec = tie.close (tie.spec is-hardware-requires returns returns-2)

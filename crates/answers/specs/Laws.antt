@@ -1,0 +1,133 @@
+-- The laws of the answers: how long they are, and that they are made of the bytes that the request's bursts copied.
+use mathlib.Core.Path.{_≡_, refl, sym, _∙_, ap}
+use mathlib.Core.List.{List, [], _∷_}
+use mathlib.Core.Logic.{inl, inr}
+use Prim.Native.Nat.{ℕ, zero, suc, _+_, _*_, _/_, _%_, _≤_, _<_}
+use native.Mathlib.Decide.{decLt}
+use native.Mathlib.Omega.{arith}
+use lib.ListN.{length, getD, set}
+use lib.Seq.{ext-getD}
+use Rattle.words.specs.Parts.{part, splice, length-part, getD-part, part-part}
+use Rattle.words.specs.Words.{bits, AreBytes, be32, beBytes}
+use Rattle.words.specs.Leaves.{le-four, part-four, be32-is}
+use Rattle.requests.specs.declared.Command.{Command}
+use Rattle.requests.specs.declared.Command.the-variants as command
+use Rattle.requests.specs.declared.Engine.{Engine}
+use Rattle.requests.specs.declared.Engine.the-variants as engine
+use Rattle.requests.specs.declared.Request.{Request}
+use Rattle.requests.specs.declared.Request.the-variants as request
+use Rattle.tables.specs.Bursts.{burstSize, burstsFrom, commandBursts, engineBursts, burstsOf}
+use Rattle.effects.specs.Fields.{stateOf}
+use Rattle.tables.specs.Touched.{Touched}
+use Rattle.answers.specs.Answers.{stateAnswer, nextAnswer, wholeAnswer, commandAnswer, engineAnswer, answerOf, commandAnswerSize, engineAnswerSize, answerSize}
+
+-- an answer of no bytes leaves the output
+pub splice-none : (l : List ℕ) → splice 0 [] l ≡ l
+unfolding splice
+splice-none l = refl
+
+-- a first byte stored and the others copied behind it
+pub splice-first : (x : ℕ) (ys l : List ℕ) → 1 ≤ length l → splice 1 ys (set l 0 x) ≡ splice 0 (x ∷ ys) l
+unfolding splice
+splice-first x ys [] h = absurd (omega arith)
+splice-first x ys (y ∷ l) h =
+    let e : 1 + length ys ≡ suc (length ys) = omega arith in
+    let f : 0 + suc (length ys) ≡ suc (length ys) = omega arith in
+    rw (e, f)
+
+-- a single byte stored
+pub splice-one : (x : ℕ) (l : List ℕ) → 1 ≤ length l → set l 0 x ≡ splice 0 (x ∷ []) l
+unfolding splice
+splice-one x [] h = absurd (omega arith)
+splice-one x (y ∷ l) h = refl
+
+length-command : (c : Command) (p : List ℕ) → 256 ≤ length p → length (commandAnswer c p) ≡ commandAnswerSize c
+unfolding wholeAnswer
+length-command (command.Sw2Hw o) p h = refl
+length-command (command.Hw2Sw o) p h = refl
+length-command (command.ResizeCq n) p h = refl
+length-command (command.QueryQp n) p h = length-part 0 256 p h
+length-command (command.ModifyQp e n) p h = refl
+
+length-engine : (e : Engine) (p : List ℕ) → 256 ≤ length p → length (engineAnswer e p) ≡ engineAnswerSize e
+unfolding stateAnswer nextAnswer wholeAnswer
+length-engine (engine.ReadState n) p h = refl
+length-engine (engine.ReadNext n) p h = ap suc (length-part 0x6d 3 p (omega arith))
+length-engine (engine.ReadAll n) p h = length-part 0 256 p h
+length-engine (engine.Write w n psn s) p h = refl
+
+-- an answer has the length that the table gives
+pub length-answer : (q : Request) (p : List ℕ) → 256 ≤ length p → length (answerOf q p) ≡ answerSize q
+length-answer (request.Command c) p h = length-command c p h
+length-answer (request.Engine e) p h = length-engine e p h
+
+three-bytes : (x y z : ℕ) → x < 256 → y < 256 → z < 256 → beBytes 3 (z + y * 0x100 + x * 0x10000) ≡ x ∷ y ∷ z ∷ []
+unfolding beBytes
+three-bytes x y z h i j =
+    let e : (z + y * 0x100 + x * 0x10000) / 0x10000 % 256 ≡ x = omega arith in
+    let f : (z + y * 0x100 + x * 0x10000) / 0x100 % 256 ≡ y = omega arith in
+    let g : (z + y * 0x100 + x * 0x10000) / 1 % 256 ≡ z = omega arith in
+    rw (e, f, g)
+
+-- of bytes, the three behind a word's first are its low 24 bits, high byte first: so request 2 answers "the low 24 bits" of word 6Ch
+pub psn-bytes : (at : ℕ) (p : List ℕ) → AreBytes p → at + 4 ≤ length p → part (at + 1) 3 p ≡ beBytes 3 (bits 23 0 (be32 at p))
+unfolding part bits
+psn-bytes at p a h =
+    let w : bits 23 0 (be32 at p) ≡ getD p (at + 3) 0 + getD p (at + 2) 0 * 0x100 + getD p (at + 1) 0 * 0x10000 =
+    rw (← be32-is at p h, le-four) (omega (arith, a at, a (at + 1), a (at + 2), a (at + 3))) in
+    sym (part-part at 4 1 3 p h (omega arith)) ∙ ap (part 1 3) (part-four at p h)
+    ∙ sym (three-bytes _ _ _ (a (at + 1)) (a (at + 2)) (a (at + 3))) ∙ ap (beBytes 3) (sym w)
+
+-- p and c agree at every byte that lies in one of the bursts
+abbrev pub AgreeOn : List ℕ → List ℕ → List ℕ → Type 0
+AgreeOn js p c = (i : ℕ) → Touched i js → getD p i 0 ≡ getD c i 0
+
+-- two lists that agree from at to at + n have the same part there
+part-agrees : (at n : ℕ) (p c : List ℕ) → at + n ≤ length p → at + n ≤ length c → ((i : ℕ) → i < n → getD p (at + i) 0 ≡ getD c (at + i) 0) → part at n p ≡ part at n c
+part-agrees at n p c h k a =
+    ext-getD 0 (part at n p) (part at n c) (length-part at n p h ∙ sym (length-part at n c k))
+    (λ i j. let j′ : i < n = omega (arith, length-part at n p h) in getD-part at n p i j′ ∙ a i j′ ∙ sym (getD-part at n c i j′))
+
+-- every byte of the n bursts from the s-th on lies in one of them
+in-bursts : (s n i : ℕ) → burstSize * s ≤ i → i < burstSize * (s + n) → Touched i (burstsFrom s n)
+in-bursts s zero i h k = absurd (omega arith)
+in-bursts s (suc n) i h k = go (decLt i (burstSize * s + burstSize)) (λ y. in-bursts (suc s) n i y (omega arith))
+  where
+    go : Dec (i < burstSize * s + burstSize) → (burstSize * suc s ≤ i → Touched i (burstsFrom (suc s) n)) → Touched i (burstsFrom s (suc n))
+    go (yes y) f = inl (h, y)
+    go (no y) f = inr (f (omega arith))
+
+state-agrees : (js p c : List ℕ) → AgreeOn (0 ∷ js) p c → stateOf p ≡ stateOf c
+unfolding stateOf
+state-agrees js p c a = rw (a 0 (inl (omega arith, omega arith)))
+
+whole-agrees : (p c : List ℕ) → 256 ≤ length p → 256 ≤ length c → AgreeOn (burstsFrom 0 16) p c → wholeAnswer p ≡ wholeAnswer c
+unfolding wholeAnswer
+whole-agrees p c h k a = part-agrees 0 256 p c h k (λ i j. a (0 + i) (in-bursts 0 16 (0 + i) (omega arith) (omega arith)))
+
+next-agrees : (p c : List ℕ) → 256 ≤ length p → 256 ≤ length c → AgreeOn (0 ∷ 6 ∷ []) p c → nextAnswer p ≡ nextAnswer c
+unfolding nextAnswer
+next-agrees p c h k a =
+    rw (
+      state-agrees (6 ∷ []) p c a,
+      part-agrees 0x6d 3 p c (omega arith) (omega arith) (λ i j. a (0x6d + i) (inr (inl (omega arith, omega arith)))),
+    )
+
+command-agrees : (d : Command) (p c : List ℕ) → 256 ≤ length p → 256 ≤ length c → AgreeOn (commandBursts d) p c → commandAnswer d p ≡ commandAnswer d c
+command-agrees (command.Sw2Hw o) p c h k a = refl
+command-agrees (command.Hw2Sw o) p c h k a = refl
+command-agrees (command.ResizeCq n) p c h k a = refl
+command-agrees (command.QueryQp n) p c h k a = whole-agrees p c h k a
+command-agrees (command.ModifyQp e n) p c h k a = refl
+
+engine-agrees : (e : Engine) (p c : List ℕ) → 256 ≤ length p → 256 ≤ length c → AgreeOn (engineBursts e) p c → engineAnswer e p ≡ engineAnswer e c
+unfolding stateAnswer
+engine-agrees (engine.ReadState n) p c h k a = rw (state-agrees [] p c a)
+engine-agrees (engine.ReadNext n) p c h k a = next-agrees p c h k a
+engine-agrees (engine.ReadAll n) p c h k a = whole-agrees p c h k a
+engine-agrees (engine.Write w n psn s) p c h k a = refl
+
+-- an answer depends only on the bytes that the request's bursts moved
+pub answer-agrees : (q : Request) (p c : List ℕ) → 256 ≤ length p → 256 ≤ length c → AgreeOn (burstsOf q) p c → answerOf q p ≡ answerOf q c
+answer-agrees (request.Command d) p c h k a = command-agrees d p c h k a
+answer-agrees (request.Engine e) p c h k a = engine-agrees e p c h k a

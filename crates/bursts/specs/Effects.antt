@@ -1,0 +1,145 @@
+-- What the byte rule leaves of a record: a reader leaves all of it, a writer all outside its bursts, and a write that sets a
+-- state leaves that state. So the bursts of a request are its whole effect (`writes-whole`).
+use mathlib.Core.Path.{_≡_, refl, sym, _∙_, ap}
+use mathlib.Core.Bool.{true, false, false≢true}
+use mathlib.Core.List.{List}
+use mathlib.Core.Logic.{inl, inr}
+use Prim.Native.Nat.{ℕ, _+_, _/_, _≤_, _<_}
+use native.Mathlib.Omega.{arith}
+use borrow.Author.Tests.{ne-eqb}
+use lib.ListN.{length, getD}
+use Rattle.words.specs.Maps.{mapFrom, getD-mapFrom}
+use Rattle.context.specs.Layout.{recordSize}
+use Rattle.edges.specs.States.{stateCode}
+use Rattle.edges.specs.Edges.{toOf}
+use Rattle.edges.specs.declared.State.{State}
+use Rattle.edges.specs.declared.Edge.{Edge}
+use Rattle.edges.specs.declared.Edge.the-variants.{ResetToInit, InitToInit, InitToRtr, RtrToRts, RtsToRts, SqeToRts, RtsToSqd, SqdToSqd, SqdToRts, ToErr, ToReset}
+use Rattle.requests.specs.declared.Psn.{Psn}
+use Rattle.requests.specs.declared.Psn.the-variants.{NextSend, LastAcked, Expected}
+use Rattle.requests.specs.declared.Owned.{Owned}
+use Rattle.requests.specs.declared.Owned.the-variants as owned
+use Rattle.requests.specs.declared.Command.the-variants as command
+use Rattle.requests.specs.declared.Engine.the-variants as engine
+use Rattle.requests.specs.declared.Request.{Request}
+use Rattle.requests.specs.declared.Request.the-variants as request
+use Rattle.tables.specs.Records.{ownedRecord, recordOf, writesOf}
+use Rattle.tables.specs.Bursts.{psnPlace, burstsFrom, psnBursts, burstsOf}
+use Rattle.tables.specs.Touched.{Inside, Touched}
+use Rattle.bursts.specs.Bursts.{burst, after, burst-in, after-whole}
+use Rattle.bursts.specs.Bytes.{withState, takenByte, edgeByte, psnByte, writeByte, byteOf}
+use Rattle.bursts.specs.Table.{all-touched, bursts-fit, bursts-once}
+
+-- "Reads ..: Nothing changes."
+pub reader-keeps : (q : Request) (mail : List ℕ) (i b : ℕ) → writesOf q ≡ false → byteOf q mail i b ≡ b
+reader-keeps (request.Command (command.Sw2Hw o)) mail i b w = absurd (false≢true (sym w))
+reader-keeps (request.Command (command.Hw2Sw o)) mail i b w = absurd (false≢true (sym w))
+reader-keeps (request.Command (command.ResizeCq n)) mail i b w = absurd (false≢true (sym w))
+reader-keeps (request.Command (command.QueryQp n)) mail i b w = refl
+reader-keeps (request.Command (command.ModifyQp e n)) mail i b w = absurd (false≢true (sym w))
+reader-keeps (request.Engine (engine.ReadState n)) mail i b w = refl
+reader-keeps (request.Engine (engine.ReadNext n)) mail i b w = refl
+reader-keeps (request.Engine (engine.ReadAll n)) mail i b w = refl
+reader-keeps (request.Engine (engine.Write p n psn s)) mail i b w = absurd (false≢true (sym w))
+
+-- An engine write changes bytes of its two bursts alone.
+psn-kept : (at psn i b : ℕ) → ¬ (i ≡ at + 1) → ¬ (i ≡ at + 2) → ¬ (i ≡ at + 3) → psnByte at psn i b ≡ b
+unfolding psnByte
+psn-kept at psn i b x y z = rw (ne-eqb i (at + 1) x, ne-eqb i (at + 2) y, ne-eqb i (at + 3) z)
+
+state-kept : (s : State) (i b : ℕ) → ¬ (i ≡ 0) → withState s i b ≡ b
+unfolding withState
+state-kept s i b x = rw (ne-eqb i 0 x)
+
+-- the three bytes of a PSN lie in the burst of its word
+psn-inside : (p : Psn) (i : ℕ) → psnPlace p ≤ i → i ≤ psnPlace p + 3 → Inside i (psnPlace p / 16)
+psn-inside NextSend i h k = (omega arith, omega arith)
+psn-inside LastAcked i h k = (omega arith, omega arith)
+psn-inside Expected i h k = (omega arith, omega arith)
+
+write-kept : (p : Psn) (psn : ℕ) (s : State) (i b : ℕ) → ¬ Touched i (psnBursts p) → writeByte p psn s i b ≡ b
+unfolding writeByte
+write-kept p psn s i b n =
+    state-kept s i (psnByte (psnPlace p) psn i b) front
+    ∙ psn-kept (psnPlace p) psn i b (off 1 (omega arith)) (off 2 (omega arith)) (off 3 (omega arith))
+  where
+    front : ¬ (i ≡ 0)
+    front e = n (inl (omega (arith, e), omega (arith, e)))
+
+    off : (k : ℕ) → k ≤ 3 → ¬ (i ≡ psnPlace p + k)
+    off k h e = n (inr (inl (psn-inside p i (omega (arith, e)) (omega (arith, e)))))
+
+owned-touched : (o : Owned) (i : ℕ) → i < recordSize (ownedRecord o) → Touched i (burstsFrom 0 4)
+owned-touched (owned.Mpt n) i h = all-touched 4 i h
+owned-touched (owned.Eq n) i h = all-touched 4 i h
+owned-touched (owned.Cq n) i h = all-touched 4 i h
+
+pub byte-kept : (q : Request) (mail : List ℕ) (i b : ℕ) → i < recordSize (recordOf q) → ¬ Touched i (burstsOf q) → byteOf q mail i b ≡ b
+byte-kept (request.Command (command.Sw2Hw o)) mail i b h n = absurd (n (owned-touched o i h))
+byte-kept (request.Command (command.Hw2Sw o)) mail i b h n = absurd (n (owned-touched o i h))
+byte-kept (request.Command (command.ResizeCq m)) mail i b h n = absurd (n (all-touched 4 i h))
+byte-kept (request.Command (command.QueryQp m)) mail i b h n = refl
+byte-kept (request.Command (command.ModifyQp e m)) mail i b h n = absurd (n (all-touched 16 i h))
+byte-kept (request.Engine (engine.ReadState m)) mail i b h n = refl
+byte-kept (request.Engine (engine.ReadNext m)) mail i b h n = refl
+byte-kept (request.Engine (engine.ReadAll m)) mail i b h n = refl
+byte-kept (request.Engine (engine.Write p m psn s)) mail i b h n = write-kept p psn s i b n
+
+-- all the bursts of a request, each from what stands there, are its whole effect on the record c
+pub writes-whole : (q : Request) (mail c : List ℕ) → length c ≡ recordSize (recordOf q)
+    → after (byteOf q mail) (burstsOf q) c ≡ mapFrom (byteOf q mail) 0 c
+writes-whole q mail c e =
+    after-whole (byteOf q mail) (burstsOf q) c (rw e (bursts-fit q)) (bursts-once q) (λ i b l n. byte-kept q mail i b (omega (arith, e)) n)
+
+-- The state that a request leaves: "the state is set".
+abbrev pub Sets : Request → State → Type 0
+Sets (request.Command (command.Sw2Hw o)) s = ⊥
+Sets (request.Command (command.Hw2Sw o)) s = ⊥
+Sets (request.Command (command.ResizeCq n)) s = ⊥
+Sets (request.Command (command.QueryQp n)) s = ⊥
+Sets (request.Command (command.ModifyQp e n)) s = toOf e ≡ s
+Sets (request.Engine (engine.ReadState n)) s = ⊥
+Sets (request.Engine (engine.ReadNext n)) s = ⊥
+Sets (request.Engine (engine.ReadAll n)) s = ⊥
+Sets (request.Engine (engine.Write p n psn t)) s = t ≡ s
+
+-- byte 0 has the state in its top half
+with-state : (s : State) (b : ℕ) → withState s 0 b / 16 ≡ stateCode s
+unfolding withState
+with-state s b = omega arith
+
+edge-state : (e : Edge) (mail : List ℕ) (b : ℕ) → edgeByte e mail 0 b / 16 ≡ stateCode (toOf e)
+unfolding edgeByte
+edge-state ResetToInit mail b = with-state (toOf ResetToInit) (takenByte ResetToInit mail 0 b)
+edge-state InitToInit mail b = with-state (toOf InitToInit) (takenByte InitToInit mail 0 b)
+edge-state InitToRtr mail b = with-state (toOf InitToRtr) (takenByte InitToRtr mail 0 b)
+edge-state RtrToRts mail b = with-state (toOf RtrToRts) (takenByte RtrToRts mail 0 b)
+edge-state RtsToRts mail b = with-state (toOf RtsToRts) (takenByte RtsToRts mail 0 b)
+edge-state SqeToRts mail b = with-state (toOf SqeToRts) (takenByte SqeToRts mail 0 b)
+edge-state RtsToSqd mail b = with-state (toOf RtsToSqd) (takenByte RtsToSqd mail 0 b)
+edge-state SqdToSqd mail b = with-state (toOf SqdToSqd) (takenByte SqdToSqd mail 0 b)
+edge-state SqdToRts mail b = with-state (toOf SqdToRts) (takenByte SqdToRts mail 0 b)
+edge-state ToErr mail b = with-state (toOf ToErr) (takenByte ToErr mail 0 b)
+edge-state ToReset mail b = refl
+
+pub state-after : (q : Request) (s : State) → Sets q s → (mail : List ℕ) (b : ℕ) → byteOf q mail 0 b / 16 ≡ stateCode s
+unfolding writeByte
+state-after (request.Command (command.Sw2Hw o)) s x mail b = absurd x
+state-after (request.Command (command.Hw2Sw o)) s x mail b = absurd x
+state-after (request.Command (command.ResizeCq n)) s x mail b = absurd x
+state-after (request.Command (command.QueryQp n)) s x mail b = absurd x
+state-after (request.Command (command.ModifyQp e n)) s x mail b = edge-state e mail b ∙ ap stateCode x
+state-after (request.Engine (engine.ReadState n)) s x mail b = absurd x
+state-after (request.Engine (engine.ReadNext n)) s x mail b = absurd x
+state-after (request.Engine (engine.ReadAll n)) s x mail b = absurd x
+state-after (request.Engine (engine.Write p n psn t)) s x mail b = with-state t (psnByte (psnPlace p) psn 0 b) ∙ ap stateCode x
+
+-- the record's state after the whole effect, and already after the first burst
+pub state-whole : (q : Request) (s : State) → Sets q s → (mail c : List ℕ) → 0 < length c
+    → getD (mapFrom (byteOf q mail) 0 c) 0 0 / 16 ≡ stateCode s
+state-whole q s x mail c h = ap (λ (b : ℕ). b / 16) (getD-mapFrom (byteOf q mail) 0 c 0 h) ∙ state-after q s x mail (getD c 0 0)
+
+pub state-first : (q : Request) (s : State) → Sets q s → (mail c : List ℕ) → 16 ≤ length c
+    → getD (burst (byteOf q mail) 0 c) 0 0 / 16 ≡ stateCode s
+state-first q s x mail c h =
+    ap (λ (b : ℕ). b / 16) (burst-in (byteOf q mail) 0 c h 0 (omega arith, omega arith)) ∙ state-after q s x mail (getD c 0 0)

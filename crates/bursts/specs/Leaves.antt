@@ -1,0 +1,142 @@
+-- What the code of the leaves meets: the byte rule reads inside the needed mailbox bytes, and a lent part leaves a burst.
+use mathlib.Core.Path.{_≡_, refl, sym, _∙_, ap}
+use mathlib.Core.Bool.{Bool, true, false, false≢true}
+use mathlib.Core.List.{List, _++_, append-nil}
+use Prim.Native.Nat.{ℕ, _+_, _-_, _*_, _/_, _≤_, _<_}
+use native.Mathlib.Nat.{add-sub-cancel-left, zero-add}
+use native.Mathlib.Omega.{arith}
+use borrow.Author.Tests.{leb-true, eqb-true}
+use lib.Dec.{leb, eqb, lit<}
+use lib.ListN.{length, take, drop}
+use lib.Seq.{drop-length}
+use Rattle.words.specs.Choice.{pick-no, either, within, both-left, both-right}
+use Rattle.words.specs.Parts.{part, splice, length-part, lent-splice}
+use Rattle.words.specs.Maps.{length-mapFrom}
+use Rattle.edges.specs.States.{stateCode}
+use Rattle.edges.specs.Edges.{toOf}
+use Rattle.edges.specs.declared.State.{State}
+use Rattle.edges.specs.declared.State.the-variants.{Reset, Init, Rtr, Rts, Sqe, Sqd, Err}
+use Rattle.edges.specs.declared.Edge.{Edge}
+use Rattle.edges.specs.declared.Edge.the-variants.{ResetToInit, InitToInit, InitToRtr, RtrToRts, RtsToRts, SqeToRts, RtsToSqd, SqdToSqd, SqdToRts, ToErr, ToReset}
+use Rattle.requests.specs.declared.Psn.{Psn}
+use Rattle.requests.specs.declared.Psn.the-variants.{NextSend, LastAcked, Expected}
+use Rattle.requests.specs.declared.Request.{Request}
+use Rattle.tables.specs.Mailboxes.{edgeNeed, needOf}
+use Rattle.tables.specs.Bursts.{psnPlace}
+use Rattle.bursts.specs.Bytes.{withState, takenByte, edgeByte, byteOf}
+use Rattle.bursts.specs.Moves.{writtenPart, writeAt, copyAt}
+use Rattle.bursts.specs.Taken.{takes, wordOf, zeroes}
+
+-- What a range's test says.
+pub within-low : (a b i : ℕ) → within a b i ≡ true → a ≤ i
+within-low a b i t = leb-true a i (both-left (leb a i) (leb i b) t)
+
+pub within-high : (a b i : ℕ) → within a b i ≡ true → i ≤ b
+within-high a b i t = leb-true i b (both-right (leb a i) (leb i b) t)
+
+-- of two tests of which one holds, each bounds the number
+either-at-most : (p q : Bool) (i n : ℕ) → (p ≡ true → i ≤ n) → (q ≡ true → i ≤ n) → either p q ≡ true → i ≤ n
+either-at-most true q i n f g t = f refl
+either-at-most false q i n f g t = g t
+
+is-at-most : (w k n : ℕ) → k ≤ n → eqb w k ≡ true → w ≤ n
+is-at-most w k n h t = omega (arith, eqb-true w k t)
+
+range-at-most : (a b n w : ℕ) → b ≤ n → within a b w ≡ true → w ≤ n
+range-at-most a b n w h t = omega (arith, within-high a b w t)
+
+range-or : (a b k n w : ℕ) → b ≤ n → k ≤ n → either (within a b w) (eqb w k) ≡ true → w ≤ n
+range-or a b k n w h l t =
+    either-at-most (within a b w) (eqb w k) w n (range-at-most a b n w h) (is-at-most w k n l) t
+
+-- a word that is taken ends inside the image
+taken-word : (e : Edge) (w : ℕ) → takes e w ≡ true → w + 4 ≤ edgeNeed e
+taken-word ResetToInit w t = omega (arith, range-at-most 0 0xa0 0xa0 w (omega arith) t)
+taken-word InitToInit w t = omega (arith, range-at-most 4 0x4c 0xa0 w (omega arith) t)
+taken-word InitToRtr w t = omega (arith, range-or 4 0x4c 0x84 0xa0 w (omega arith) (omega arith) t)
+taken-word RtrToRts w t =
+    omega (
+      arith,
+      either-at-most (within 0x20 0x28 w) (either (eqb w 0x6c) (eqb w 0x7c)) w 0xa0 (range-at-most 0x20 0x28 0xa0 w (omega arith))
+          (either-at-most (eqb w 0x6c) (eqb w 0x7c) w 0xa0 (is-at-most w 0x6c 0xa0 (omega arith)) (is-at-most w 0x7c 0xa0 (omega arith))) t,
+    )
+taken-word RtsToRts w t = omega (arith, range-at-most 0x20 0x28 0xa0 w (omega arith) t)
+taken-word SqeToRts w t = omega (arith, is-at-most w 0x98 0xa0 (omega arith) t)
+taken-word RtsToSqd w t = absurd (false≢true t)
+taken-word SqdToSqd w t = omega (arith, range-or 0x20 0x4c 0x98 0xa0 w (omega arith) (omega arith) t)
+taken-word SqdToRts w t = omega (arith, range-or 0x20 0x4c 0x98 0xa0 w (omega arith) (omega arith) t)
+taken-word ToErr w t = absurd (false≢true t)
+taken-word ToReset w t = absurd (false≢true t)
+
+-- a byte of a taken word stands in the image
+pub taken-needed : (e : Edge) (i : ℕ) → takes e (wordOf i) ≡ true → i < edgeNeed e
+taken-needed e i t = omega (arith, taken-word e (wordOf i) t)
+
+-- the same with the premises of the code: r is what the test answered, n the length of the lent image
+pub taken-inside : (e : Edge) (i n : ℕ) (r : Bool) → r ≡ takes e (i / 4 * 4) → r ≡ true → edgeNeed e ≤ n → i < n
+taken-inside e i n r p q h = omega (arith, taken-needed e i (sym p ∙ q))
+
+pub told-low : (a b i : ℕ) (r : Bool) → r ≡ within a b i → r ≡ true → a ≤ i
+told-low a b i r p q = within-low a b i (sym p ∙ q)
+
+pub told-high : (a b i : ℕ) (r : Bool) → r ≡ within a b i → r ≡ true → i ≤ b
+told-high a b i r p q = within-high a b i (sym p ∙ q)
+
+-- an edge that does not zero the record, in the steps of the code: z is the test's answer, s the state that the edge leads to,
+-- t the byte with the taken words
+pub edge-set : (e : Edge) (image : List ℕ) (i old : ℕ) {z : Bool} {s : State} {t r : ℕ} → z ≡ zeroes e → z ≡ false → s ≡ toOf e
+    → t ≡ takenByte e image i old → r ≡ withState s i t → r ≡ edgeByte e image i old
+unfolding edgeByte
+edge-set e image i old p q k g h =
+    h ∙ rw (k, g) (pick-no (zeroes e) 0 (withState (toOf e) i (takenByte e image i old)) (withState (toOf e) i (takenByte e image i old)) (sym p ∙ q) refl)
+
+-- "state in 31:28": a code fits the top half of a byte
+pub stateCode-small : (s : State) → stateCode s < 7
+stateCode-small Reset = lit< tt
+stateCode-small Init = lit< tt
+stateCode-small Rtr = lit< tt
+stateCode-small Rts = lit< tt
+stateCode-small Sqe = lit< tt
+stateCode-small Sqd = lit< tt
+stateCode-small Err = lit< tt
+
+pub psnPlace-small : (p : Psn) → psnPlace p < 256
+psnPlace-small NextSend = lit< tt
+psnPlace-small LastAcked = lit< tt
+psnPlace-small Expected = lit< tt
+
+-- a list that is replaced whole
+pub splice-all : (ys l : List ℕ) → length ys ≡ length l → splice 0 ys l ≡ ys
+unfolding splice
+splice-all ys l e = rw (zero-add, e, drop-length, append-nil)
+
+pub length-writtenPart : (q : Request) (mail : List ℕ) (first : ℕ) (p : List ℕ) → length (writtenPart q mail first p) ≡ length p
+unfolding writtenPart
+length-writtenPart q mail first p = length-mapFrom (byteOf q mail) first p
+
+-- The two shapes that a lent part leaves: n is the needed length as a call answered it, out the part's new contents.
+pub written-lent : (q : Request) (at base first n : ℕ) (room store out : List ℕ) → n ≡ needOf q → at + 16 ≤ length store
+    → out ≡ writtenPart q (take (base + n - base) (drop base room)) first (take (at + 16 - at) (drop at store))
+    → take at store ++ (out ++ drop (at + 16 - at) (drop at store)) ≡ writeAt q (part base (needOf q) room) at first store
+unfolding part writeAt
+written-lent q at base first n room store out k h e =
+    rw add-sub-cancel-left (lent-splice at 16 out store long ∙ ap (λ (ys : List ℕ). splice at ys store) same)
+  where
+    same : out ≡ writtenPart q (take (needOf q) (drop base room)) first (take 16 (drop at store))
+    same = e ∙ rw (add-sub-cancel-left, add-sub-cancel-left, k)
+
+    long : length out ≡ 16
+    long = ap length same ∙ length-writtenPart q (take (needOf q) (drop base room)) first (take 16 (drop at store)) ∙ length-part at 16 store h
+
+pub copied-lent : (at to : ℕ) (store room out : List ℕ) → at + 16 ≤ length store
+    → out ≡ take (at + 16 - at) (drop at store)
+    → take to room ++ (out ++ drop (to + 16 - to) (drop to room)) ≡ copyAt at store to room
+unfolding part copyAt
+copied-lent at to store room out h e =
+    rw add-sub-cancel-left (lent-splice to 16 out room long ∙ ap (λ (ys : List ℕ). splice to ys room) same)
+  where
+    same : out ≡ take 16 (drop at store)
+    same = e ∙ rw add-sub-cancel-left
+
+    long : length out ≡ 16
+    long = ap length same ∙ length-part at 16 store h
