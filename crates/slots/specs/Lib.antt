@@ -3,3 +3,4 @@ pub mod Slots
 pub mod Rows
 pub mod Holds
 pub mod Possible
+pub mod Totals

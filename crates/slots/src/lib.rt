@@ -6,8 +6,9 @@ use requests::Request;
 ghost use mathlib.Core.Path.{_≡_};
 ghost use Prim.Native.Nat.{_+_, _-_, _≤_, _<_};
 ghost use lib.ListN.{drop};
+ghost use Rattle.tables.specs.Bursts.{totalOf};
 ghost use Rattle.slots.specs.Slots.{slot, accepted, freed, advancedStatus, advanced, leftStatus, leftOf, emptyRow};
-ghost use Rattle.slots.specs.Rows.{anySlot, anyRest, isOccupied, hasCommand, lowestFree};
+ghost use Rattle.slots.specs.Rows.{anySlot, anyRest, occupiedStatus, isOccupied, commandStatus, hasCommand, lowestFree};
 ghost use Rattle.slots.specs.Holds.{clashPair, clashRecords, clashSlot, heldAgainst};
 ghost use Rattle.slots.specs.Possible.{slotWrong, commandBefore, twoCommands, clashBefore, holdsClash, impossible};
 
@@ -34,4 +35,119 @@ pub struct Hca {
 pub enum Found {
     At(usize),
     Nothing,
+}
+
+// The bursts that a request with this many moved has still to move.
+fn left(request: Request, moved: u8) -> u8
+    ensures { λ r. ⌜ r ≡ totalOf request - moved ⌝ }
+{
+    let total = tables::total(request);
+    if total < moved {
+        return 0;
+    }
+    total - moved
+}
+
+impl Status {
+    // One burst more; the last one finishes the request.
+    pub fn advance(self) -> Status
+        ensures { λ r. ⌜ r ≡ advancedStatus self ⌝ }
+    {
+        match self {
+            Status::Free => self,
+            Status::Running(request, moved) => {
+                let total = tables::total(request);
+                if moved < total - 1 {
+                    return Status::Running(request, moved + 1);
+                }
+                Status::Finished(request, total)
+            }
+            Status::Finished(_, _) => self,
+        }
+    }
+
+    pub fn bursts_left(self) -> u8
+        ensures { λ r. ⌜ r ≡ leftStatus self ⌝ }
+    {
+        match self {
+            Status::Free => 0,
+            Status::Running(request, moved) => left(request, moved),
+            Status::Finished(request, moved) => left(request, moved),
+        }
+    }
+
+    fn is_occupied(self) -> bool
+        ensures { λ r. ⌜ r ≡ occupiedStatus self ⌝ }
+    {
+        match self {
+            Status::Free => false,
+            Status::Running(_, _) => true,
+            Status::Finished(_, _) => true,
+        }
+    }
+
+    fn has_command(self) -> bool
+        ensures { λ r. ⌜ r ≡ commandStatus self ⌝ }
+    {
+        match self {
+            Status::Free => false,
+            Status::Running(request, _) => tables::is_command(request),
+            Status::Finished(request, _) => tables::is_command(request),
+        }
+    }
+}
+
+impl Slot {
+    pub fn accept(self, request: Request) -> Slot
+        ensures { λ r. ⌜ r ≡ accepted self request ⌝ }
+    {
+        Slot {
+            status: Status::Running(request, 0),
+        }
+    }
+
+    pub fn advance(self) -> Slot
+        ensures { λ r. ⌜ r ≡ advanced self ⌝ }
+    {
+        let status = self.status;
+        Slot {
+            status: status.advance(),
+        }
+    }
+
+    pub fn free(self) -> Slot
+        ensures { λ r. ⌜ r ≡ freed self ⌝ }
+    {
+        Slot {
+            status: Status::Free,
+        }
+    }
+
+    pub fn bursts_left(self) -> u8
+        ensures { λ r. ⌜ r ≡ leftOf self ⌝ }
+    {
+        let status = self.status;
+        status.bursts_left()
+    }
+}
+
+pub fn is_occupied(slot: Slot) -> bool
+    ensures { λ r. ⌜ r ≡ isOccupied slot ⌝ }
+{
+    let status = slot.status;
+    status.is_occupied()
+}
+
+// Whether a slot has an uncollected command, running or finished.
+pub fn has_command(slot: Slot) -> bool
+    ensures { λ r. ⌜ r ≡ hasCommand slot ⌝ }
+{
+    let status = slot.status;
+    status.has_command()
+}
+
+pub fn empty_row() -> [Slot; 8]
+    ensures { λ r. ⌜ r ≡ emptyRow ⌝ }
+{
+    [Slot { status: Status::Free }; 8]
 }
