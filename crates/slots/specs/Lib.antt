@@ -4,3 +4,4 @@ pub mod Rows
 pub mod Holds
 pub mod Possible
 pub mod Totals
+pub mod Scans

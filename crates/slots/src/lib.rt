@@ -151,3 +151,58 @@ pub fn empty_row() -> [Slot; 8]
 {
     [Slot { status: Status::Free }; 8]
 }
+
+pub fn lowest_free(row: [Slot; 8]) -> Found
+    ensures { λ r. ⌜ r ≡ lowestFree 0 row ⌝ }
+{
+    for i in 0..8 {
+        if is_occupied(row[i]) {
+            continue;
+        }
+        return Found::At(i);
+    }
+    Found::Nothing
+}
+
+pub fn any_occupied(row: [Slot; 8]) -> bool
+    ensures { λ r. ⌜ r ≡ anySlot isOccupied row ⌝ }
+{
+    for i in 0..8 {
+        if is_occupied(row[i]) {
+            return true;
+        }
+    }
+    false
+}
+
+// Whether a slot from `start` on has an uncollected command.
+pub fn command_from(row: [Slot; 8], start: usize) -> bool
+    requires { ⌜ start ≤ 8 ⌝ }
+    ensures { λ r. ⌜ r ≡ anySlot hasCommand (drop start row) ⌝ }
+{
+    for i in start..8 {
+        if has_command(row[i]) {
+            return true;
+        }
+    }
+    false
+}
+
+pub fn command_uncollected(row: [Slot; 8]) -> bool
+    ensures { λ r. ⌜ r ≡ anySlot hasCommand row ⌝ }
+{
+    command_from(row, 0)
+}
+
+// Whether a running request holds this record against one that writes it or not.
+fn clashes(running: Request, writes: bool, rec: Record) -> bool
+    ensures { λ r. ⌜ r ≡ clashPair running writes rec ⌝ }
+{
+    if !context::same_record(tables::record_of(running), rec) {
+        return false;
+    }
+    if tables::writes(running) {
+        return true;
+    }
+    writes
+}
