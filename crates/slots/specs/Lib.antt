@@ -5,3 +5,4 @@ pub mod Holds
 pub mod Possible
 pub mod Totals
 pub mod Scans
+pub mod Clashes

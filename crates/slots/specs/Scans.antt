@@ -23,16 +23,14 @@ any-head : (p : Slot → Bool) (row : List Slot) (i : ℕ) → i < length row
 unfolding anySlot
 any-head p row i h = rw (drop-cons row i (slot Free) h)
 
-pub any-more : (p : Slot → Bool) (row : List Slot) (i : ℕ) (b r : Bool) → length row ≡ 8 → i < 8
-    → b ≡ p (getD row i (slot Free)) → b ≡ false → anySlot p (drop i row) ≡ r → anySlot p (drop (i + 1) row) ≡ r
-any-more p row i b r n h e f k =
-    let t : p (getD row i (slot Free)) ≡ false = sym e ∙ f in
+pub any-more : (p : Slot → Bool) (row : List Slot) (i : ℕ) (r : Bool) → length row ≡ 8 → i < 8
+    → p (getD row i (slot Free)) ≡ false → anySlot p (drop i row) ≡ r → anySlot p (drop (i + 1) row) ≡ r
+any-more p row i r n h t k =
     rw add-one (simp t at (sym (any-head p row i (omega arith)) ∙ k))
 
-pub any-found : (p : Slot → Bool) (row l : List Slot) (i : ℕ) (b : Bool) → length row ≡ 8 → i < 8
-    → b ≡ p (getD row i (slot Free)) → b ≡ true → anySlot p (drop i row) ≡ anySlot p l → true ≡ anySlot p l
-any-found p row l i b n h e f k =
-    let t : p (getD row i (slot Free)) ≡ true = sym e ∙ f in
+pub any-found : (p : Slot → Bool) (row l : List Slot) (i : ℕ) → length row ≡ 8 → i < 8
+    → p (getD row i (slot Free)) ≡ true → anySlot p (drop i row) ≡ anySlot p l → true ≡ anySlot p l
+any-found p row l i n h t k =
     sym (simp t at (any-head p row i (omega arith))) ∙ k
 
 pub any-none : (p : Slot → Bool) (row l : List Slot) (i : ℕ) → length row ≡ 8 → 8 ≤ i → anySlot p (drop i row) ≡ anySlot p l → false ≡ anySlot p l
@@ -48,16 +46,16 @@ rest-head : (p : Slot → List Slot → Bool) (row : List Slot) (i : ℕ) → i 
 unfolding anyRest
 rest-head p row i h = rw (drop-cons row i (slot Free) h)
 
-pub rest-more : (p : Slot → List Slot → Bool) (row : List Slot) (i : ℕ) (b r : Bool) → length row ≡ 8 → i < 8
-    → b ≡ p (getD row i (slot Free)) (drop (i + 1) row) → b ≡ false → anyRest p (drop i row) ≡ r → anyRest p (drop (i + 1) row) ≡ r
-rest-more p row i b r n h e f k =
-    let t : p (getD row i (slot Free)) (drop (suc i) row) ≡ false = rw add-one at (sym e ∙ f) in
+pub rest-more : (p : Slot → List Slot → Bool) (row : List Slot) (i : ℕ) (r : Bool) → length row ≡ 8 → i < 8
+    → p (getD row i (slot Free)) (drop (i + 1) row) ≡ false → anyRest p (drop i row) ≡ r → anyRest p (drop (i + 1) row) ≡ r
+rest-more p row i r n h f k =
+    let t : p (getD row i (slot Free)) (drop (suc i) row) ≡ false = rw add-one at f in
     rw add-one (simp t at (sym (rest-head p row i (omega arith)) ∙ k))
 
-pub rest-found : (p : Slot → List Slot → Bool) (row l : List Slot) (i : ℕ) (b : Bool) → length row ≡ 8 → i < 8
-    → b ≡ p (getD row i (slot Free)) (drop (i + 1) row) → b ≡ true → anyRest p (drop i row) ≡ anyRest p l → true ≡ anyRest p l
-rest-found p row l i b n h e f k =
-    let t : p (getD row i (slot Free)) (drop (suc i) row) ≡ true = rw add-one at (sym e ∙ f) in
+pub rest-found : (p : Slot → List Slot → Bool) (row l : List Slot) (i : ℕ) → length row ≡ 8 → i < 8
+    → p (getD row i (slot Free)) (drop (i + 1) row) ≡ true → anyRest p (drop i row) ≡ anyRest p l → true ≡ anyRest p l
+rest-found p row l i n h f k =
+    let t : p (getD row i (slot Free)) (drop (suc i) row) ≡ true = rw add-one at f in
     sym (simp t at (rest-head p row i (omega arith))) ∙ k
 
 pub rest-none : (p : Slot → List Slot → Bool) (row l : List Slot) (i : ℕ) → length row ≡ 8 → 8 ≤ i → anyRest p (drop i row) ≡ anyRest p l → false ≡ anyRest p l
@@ -73,16 +71,14 @@ free-head : (row : List Slot) (i : ℕ) → i < length row
 unfolding lowestFree
 free-head row i h = rw (drop-cons row i (slot Free) h)
 
-pub free-more : (row : List Slot) (i : ℕ) (b : Bool) (r : Found) → length row ≡ 8 → i < 8
-    → b ≡ isOccupied (getD row i (slot Free)) → b ≡ true → lowestFree i (drop i row) ≡ r → lowestFree (i + 1) (drop (i + 1) row) ≡ r
-free-more row i b r n h e f k =
-    let t : isOccupied (getD row i (slot Free)) ≡ true = sym e ∙ f in
+pub free-more : (row : List Slot) (i : ℕ) (r : Found) → length row ≡ 8 → i < 8
+    → isOccupied (getD row i (slot Free)) ≡ true → lowestFree i (drop i row) ≡ r → lowestFree (i + 1) (drop (i + 1) row) ≡ r
+free-more row i r n h t k =
     rw add-one (simp t at (sym (free-head row i (omega arith)) ∙ k))
 
-pub free-found : (row : List Slot) (i : ℕ) (b : Bool) (r : Found) → length row ≡ 8 → i < 8
-    → b ≡ isOccupied (getD row i (slot Free)) → b ≡ false → lowestFree i (drop i row) ≡ r → At i ≡ r
-free-found row i b r n h e f k =
-    let t : isOccupied (getD row i (slot Free)) ≡ false = sym e ∙ f in
+pub free-found : (row : List Slot) (i : ℕ) (r : Found) → length row ≡ 8 → i < 8
+    → isOccupied (getD row i (slot Free)) ≡ false → lowestFree i (drop i row) ≡ r → At i ≡ r
+free-found row i r n h t k =
     sym (simp t at (free-head row i (omega arith))) ∙ k
 
 pub free-none : (row : List Slot) (i : ℕ) (r : Found) → length row ≡ 8 → 8 ≤ i → lowestFree i (drop i row) ≡ r → Nothing ≡ r

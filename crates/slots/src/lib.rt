@@ -206,3 +206,32 @@ fn clashes(running: Request, writes: bool, rec: Record) -> bool
     }
     writes
 }
+
+// Whether a running request of the slots from `start` on holds a record against this request.
+pub fn held_from(row: [Slot; 8], start: usize, request: Request) -> bool
+    requires { ⌜ start ≤ 8 ⌝ }
+    ensures { λ r. ⌜ r ≡ heldAgainst (drop start row) request ⌝ }
+{
+    let records = tables::records_of(request);
+    let writes = tables::writes(request);
+    for i in start..8 {
+        let slot = row[i];
+        let status = slot.status;
+        let Status::Running(running, _) = status else {
+            continue;
+        };
+        for j in 0..1 {
+            if !clashes(running, writes, records[j]) {
+                continue;
+            }
+            return true;
+        }
+    }
+    false
+}
+
+pub fn held(row: [Slot; 8], request: Request) -> bool
+    ensures { λ r. ⌜ r ≡ heldAgainst row request ⌝ }
+{
+    held_from(row, 0, request)
+}

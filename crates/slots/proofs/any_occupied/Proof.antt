@@ -1,3 +1,4 @@
+use Rattle.words.specs.Choice.{told}
 use Rattle.slots.specs.Scans.{any-more, any-found, any-none}
 use Rattle.slots.specs.Rows.{anySlot, isOccupied}
 use lib.ListN.{drop}
@@ -34,7 +35,7 @@ is-occupied-requires c κs = search needs
 
 -- src/lib.rt:172:13
 returns : tie.Need-returns Inv-loop μ-loop
-returns c = search (needs, any-found)
+returns c = search (needs, told, any-found)
 
 -- src/lib.rt:170:9
 add-i : tie.Need-add-i Inv-loop μ-loop
@@ -46,7 +47,7 @@ loop-less c = search needs
 
 -- src/lib.rt:170:5
 loop-again : tie.Need-loop-again Inv-loop μ-loop
-loop-again c = search (needs, any-more)
+loop-again c = search (needs, told, any-more)
 
 -- src/lib.rt:167:1
 returns-2 : tie.Need-returns-2 Inv-loop μ-loop

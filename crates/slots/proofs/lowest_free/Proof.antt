@@ -1,3 +1,4 @@
+use Rattle.words.specs.Choice.{told}
 use Rattle.slots.specs.Scans.{free-more, free-found, free-none}
 use Rattle.slots.specs.Rows.{lowestFree}
 use lib.ListN.{drop}
@@ -42,11 +43,11 @@ loop-less c = search needs
 
 -- src/lib.rt:158:5
 loop-again : tie.Need-loop-again Inv-loop μ-loop
-loop-again c = search (needs, free-more)
+loop-again c = search (needs, told, free-more)
 
 -- src/lib.rt:162:9
 returns : tie.Need-returns Inv-loop μ-loop
-returns c = search (needs, free-found)
+returns c = search (needs, told, free-found)
 
 -- src/lib.rt:155:1
 returns-2 : tie.Need-returns-2 Inv-loop μ-loop
