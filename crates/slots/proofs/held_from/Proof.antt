@@ -107,7 +107,7 @@ loop2-less c = search needs
 
 -- src/lib.rt:223:9
 loop2-again : tie.Need-loop2-again Inv-loop2 μ-loop2 Inv-loop μ-loop
-loop2-again c = 
+loop2-again c =
     let no : c .before .clashes .result ≡ false = not-true _ (c .if1 .taken) in
     search (needs, told, records-more)
 
@@ -118,7 +118,7 @@ returns c =
     let at = c .before .before .before .before .before .before in
     let top = at .before .before .before .before in
     let hit : clashSlot (top .before .writes .result) (top .before .before .records-of .result) (getD (top .before .before .before .args .t1) (top .loop .i) (slot Free)) ≡ true =
-      running-is (at .status .given .1) _ _ true (search (needs, told, records-found (c .before .before .before .before .loop2 .j))) in
+    running-is (at .status .given .1) _ _ true (search (needs, told, records-found (c .before .before .before .before .loop2 .j))) in
     let eight : length (top .before .before .before .args .t1) ≡ 8 = search needs in
     let found = any-found _ _ _ _ eight (at .before .before .before .loop-test .taken) hit (top .loop .inv .2) in
     search (needs, held-is)
@@ -133,7 +133,7 @@ loop-less-2 c = search needs
 
 -- src/lib.rt:217:5
 loop-again-2 : tie.Need-loop-again-2 Inv-loop2 μ-loop2 Inv-loop μ-loop
-loop-again-2 c = 
+loop-again-2 c =
     search (needs, any-more, records-none, running-is (c .before .before .before .status .given .1))
 
 -- src/lib.rt:211:1

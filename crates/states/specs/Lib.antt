@@ -1,0 +1,3 @@
+-- Which states handed in are impossible.
+pub mod Possible
+pub mod Turns
