@@ -7,3 +7,4 @@ pub mod Scans
 pub mod Clashes
 pub mod Neither
 pub mod Every
+pub mod Laws
