@@ -1,3 +1,5 @@
 -- Which states handed in are impossible.
 pub mod Possible
 pub mod Turns
+pub mod Pairs
+pub mod Rows
