@@ -1,9 +1,7 @@
 -- The turns of the scan for clashes: the inner loop over a request's records, and what it says of the outer loop's slot.
-use types.Run.{OneOf}
-use denote.Enum.Declared.{tagOf, declared}
-use mathlib.Core.Path.{_≡_, refl, sym, _∙_}
+use mathlib.Core.Path.{_≡_, sym, _∙_}
 use mathlib.Core.Bool.{Bool, true, false}
-use mathlib.Core.List.{List, [], _∷_}
+use mathlib.Core.List.{List, []}
 use Prim.Native.Nat.{ℕ, suc, _+_, _≤_, _<_}
 use native.Mathlib.Numerals.{add-one}
 use native.Mathlib.Omega.{arith}
@@ -18,7 +16,7 @@ use Rattle.slots.specs.Rows.{anySlot}
 use Rattle.slots.specs.Holds.{clashPair, clashRecords, clashStatus, clashSlot, heldAgainst}
 use Rattle.slots.specs.declared.Slot.{Slot}
 use Rattle.slots.specs.declared.Status.{Status}
-use Rattle.slots.specs.declared.Status.the-variants.{Free, Running, Finished}
+use Rattle.slots.specs.declared.Status.the-variants.{Running}
 
 -- what an array of records has past its end
 abbrev no-record : Record

@@ -3,11 +3,10 @@ use mathlib.Core.Path.{_≡_, refl, sym, _∙_, ap, ap₂, subst}
 use mathlib.Core.Bool.{Bool, true, false, false≢true}
 use mathlib.Core.List.{List, [], _∷_}
 use mathlib.Core.Logic.{_⊎_, inl, inr}
-use Prim.Native.Nat.{ℕ, zero, suc, _+_, _<_, _≤_}
+use Prim.Native.Nat.{ℕ, zero, suc, _+_, _<_}
 use native.Mathlib.Omega.{arith}
-use lib.Dec.{eqb}
-use lib.ListN.{length, getD}
-use Rattle.words.specs.Choice.{pick, both, either, both-yes}
+use lib.ListN.{length}
+use Rattle.words.specs.Choice.{both, either}
 use Rattle.context.specs.Layout.{sameRecord, kindOf, kindCode, numberOf}
 use Rattle.context.specs.Records.{record-same}
 use Rattle.context.specs.declared.Record.{Record}
@@ -21,7 +20,6 @@ use Rattle.slots.specs.Every.{at, None, none-each, each-none}
 use Rattle.slots.specs.declared.Slot.{Slot}
 use Rattle.slots.specs.declared.Status.{Status}
 use Rattle.slots.specs.declared.Status.the-variants.{Free, Running, Finished}
-use Rattle.slots.specs.declared.Found.{Found}
 use Rattle.slots.specs.declared.Found.the-variants.{At, Nothing}
 
 -- ---- holds

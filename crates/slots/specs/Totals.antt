@@ -1,10 +1,9 @@
 -- Every request moves a burst, so a slot that is accepted has one to move; and one burst more, as the code counts it.
-use mathlib.Core.Path.{_≡_, refl, sym, _∙_, ap}
-use mathlib.Core.Bool.{true, false}
+use mathlib.Core.Path.{_≡_}
 use Prim.Native.Nat.{ℕ, _+_, _-_, _≤_, _<_}
 use native.Mathlib.Omega.{arith}
 use borrow.Author.Tests.{lt-ltb, le-ltb}
-use lib.Dec.{ltb, lit≤}
+use lib.Dec.{lit≤}
 use Rattle.requests.specs.declared.Command.{Command}
 use Rattle.requests.specs.declared.Command.the-variants as command
 use Rattle.requests.specs.declared.Engine.{Engine}
@@ -14,7 +13,7 @@ use Rattle.requests.specs.declared.Request.the-variants as request
 use Rattle.tables.specs.Bursts.{commandTotal, engineTotal, totalOf}
 use Rattle.slots.specs.Slots.{advancedStatus}
 use Rattle.slots.specs.declared.Status.{Status}
-use Rattle.slots.specs.declared.Status.the-variants.{Free, Running, Finished}
+use Rattle.slots.specs.declared.Status.the-variants.{Running, Finished}
 
 command-positive : (c : Command) → 1 ≤ commandTotal c
 command-positive (command.Sw2Hw o) = lit≤ tt

@@ -3,3 +3,4 @@ pub mod Possible
 pub mod Turns
 pub mod Pairs
 pub mod Rows
+pub mod Laws

@@ -2,15 +2,13 @@
 -- two slots.
 use mathlib.Core.Path.{_≡_, refl, sym, _∙_}
 use mathlib.Core.Bool.{Bool, true, false}
-use mathlib.Core.List.{List, [], _∷_}
-use Prim.Native.Nat.{ℕ}
+use mathlib.Core.List.{List}
 use Rattle.words.specs.Choice.{both}
-use Rattle.requests.specs.declared.Request.{Request}
-use Rattle.tables.specs.Records.{recordOf, recordsOf, writesOf, isCommand}
+use Rattle.tables.specs.Records.{recordsOf, writesOf}
 use Rattle.slots.specs.Neither.{both-swap, both-false}
 use Rattle.slots.specs.Slots.{slot}
 use Rattle.slots.specs.Rows.{anySlot, hasCommand}
-use Rattle.slots.specs.Holds.{clashPair, clashStatus, heldAgainst}
+use Rattle.slots.specs.Holds.{clashStatus, heldAgainst}
 use Rattle.slots.specs.Every.{NoTwo, none-pairs, pairs-none, each-none}
 use Rattle.slots.specs.Laws.{clash-one, clash-symmetric}
 use Rattle.slots.specs.declared.Slot.{Slot}
@@ -88,4 +86,3 @@ clashes-pairs row e = none-pairs clashBefore slotsClash clashes-are clashes-swap
 pub pairs-clashes : (row : List Slot) → NoTwo slotsClash row → holdsClash row ≡ false
 unfolding holdsClash
 pairs-clashes row h = pairs-none clashBefore slotsClash clashes-are row h
-

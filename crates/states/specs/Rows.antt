@@ -2,12 +2,12 @@
 use mathlib.Core.Path.{_≡_, refl, sym, _∙_, ap}
 use mathlib.Core.Bool.{Bool, true, false, not}
 use mathlib.Core.List.{List}
-use Prim.Native.Nat.{ℕ, _+_, _<_, _≤_}
+use Prim.Native.Nat.{ℕ, _+_, _<_}
 use native.Mathlib.Omega.{arith}
-use borrow.Author.Tests.{not-true, not-false, lt-ltb, eq-eqb}
-use lib.Dec.{ltb, eqb}
+use borrow.Author.Tests.{not-false, lt-ltb, eq-eqb}
+use lib.Dec.{ltb}
 use lib.ListN.{set}
-use Rattle.words.specs.Choice.{both, either, by-pick}
+use Rattle.words.specs.Choice.{both, by-pick}
 use Rattle.context.specs.Layout.{fitsStore}
 use Rattle.context.specs.declared.Logs.{Logs}
 use Rattle.requests.specs.declared.Request.{Request}
@@ -23,7 +23,7 @@ use Rattle.slots.specs.Laws.{held-each, none-occupied, none-command}
 use Rattle.slots.specs.declared.Slot.{Slot}
 use Rattle.slots.specs.declared.Status.{Status}
 use Rattle.slots.specs.declared.Status.the-variants.{Free, Running, Finished}
-use Rattle.states.specs.Possible.{statusWrong, slotWrong, twoCommands, holdsClash, openImpossible}
+use Rattle.states.specs.Possible.{statusWrong, slotWrong, twoCommands, openImpossible}
 use Rattle.states.specs.Pairs.{bothCommands, commands-swap, commands-pairs, pairs-commands, statusesClash, slotsClash, clashes-swap, clashes-pairs, pairs-clashes}
 
 pub record OpenRow (g : Logs) (store : ℕ) (row : List Slot) : Type 0 where

@@ -1,35 +1,25 @@
-use Rattle.words.specs.Choice.{cases}
+-- `slots::clashes` meets its contract.
 use borrow.Author.Tests.{not-true, not-false}
 use borrow.Author.Needs.{needs}
+use Rattle.words.specs.Choice.{cases}
 use Rattle.slots.proofs.clashes.Statement.{statement}
 use Rattle.slots.proofs.clashes.Tie as tie
-use Rattle.slots.proofs.clashes.Reads as reads
-use Rattle.slots.proofs.clashes.Lts as lts
-use Rattle.context.proofs.same_record.Reads as same-record-reads
-use Rattle.tables.proofs.record_of.Reads as record-of-reads
-use Rattle.tables.proofs.writes.Reads as writes-reads
 
--- src/lib.rt:201:30
 record-of-requires : tie.Need-record-of-requires
 record-of-requires c κs = search needs
 
--- src/lib.rt:201:9
 same-record-requires : tie.Need-same-record-requires
 same-record-requires c κs = search needs
 
--- src/lib.rt:202:9
 returns : tie.Need-returns
 returns c = rw (← c .before .before .record-of .ensures) (search (cases, not-true) depth 8)
 
--- src/lib.rt:204:8
 writes-requires : tie.Need-writes-requires
 writes-requires c κs = search needs
 
--- src/lib.rt:205:9
 returns-2 : tie.Need-returns-2
 returns-2 c = rw (← c .before .before .before .before .record-of .ensures) (search (cases, not-false) depth 8)
 
--- src/lib.rt:198:1
 returns-3 : tie.Need-returns-3
 returns-3 c = rw (← c .before .before .before .before .record-of .ensures) (search (cases, not-false) depth 8)
 

@@ -1,15 +1,13 @@
-use Rattle.words.specs.Choice.{told}
-use Rattle.slots.specs.Scans.{any-more, any-found, any-none}
-use Rattle.slots.specs.Rows.{anySlot, hasCommand}
-use lib.ListN.{drop}
+-- `slots::command_from` meets its contract. The loop keeps that what is left of the row decides.
 use mathlib.Core.Path.{_≡_}
 use Prim.Native.Nat.{_≤_, _-_}
 use borrow.Author.Needs.{needs}
+use lib.ListN.{drop}
+use Rattle.words.specs.Choice.{told}
+use Rattle.slots.specs.Scans.{any-more, any-found, any-none}
+use Rattle.slots.specs.Rows.{anySlot, hasCommand}
 use Rattle.slots.proofs.command_from.Statement.{statement}
 use Rattle.slots.proofs.command_from.Tie as tie
-use Rattle.slots.proofs.command_from.Reads as reads
-use Rattle.slots.proofs.command_from.Lts as lts
-use Rattle.slots.proofs.has_command.Reads as has-command-reads
 
 abbrev Inv-loop : tie.InvT-loop
 Inv-loop start row i₀ i = (start ≤ i) × (i ≤ 8) × (anySlot hasCommand (drop i row) ≡ anySlot hasCommand (drop start row))
@@ -17,39 +15,30 @@ Inv-loop start row i₀ i = (start ≤ i) × (i ≤ 8) × (anySlot hasCommand (d
 abbrev μ-loop : tie.MeasureT-loop
 μ-loop start row i₀ i = 8 - i
 
--- src/lib.rt:183:5
 loop-holds : tie.Need-loop-holds Inv-loop μ-loop
 loop-holds c = search needs
 
--- src/lib.rt:184:24
 mul-has-command : tie.Need-mul-has-command Inv-loop μ-loop
 mul-has-command c = search needs
 
--- src/lib.rt:184:24
 array-copy-out-has-command : tie.Need-array-copy-out-has-command Inv-loop μ-loop
 array-copy-out-has-command c = search needs
 
--- src/lib.rt:184:12
 has-command-requires : tie.Need-has-command-requires Inv-loop μ-loop
 has-command-requires c κs = search needs
 
--- src/lib.rt:185:13
 returns : tie.Need-returns Inv-loop μ-loop
 returns c = search (needs, told, any-found)
 
--- src/lib.rt:183:9
 add-i : tie.Need-add-i Inv-loop μ-loop
 add-i c = search needs
 
--- src/lib.rt:183:5
 loop-less : tie.Need-loop-less Inv-loop μ-loop
 loop-less c = search needs
 
--- src/lib.rt:183:5
 loop-again : tie.Need-loop-again Inv-loop μ-loop
 loop-again c = search (needs, told, any-more)
 
--- src/lib.rt:179:1
 returns-2 : tie.Need-returns-2 Inv-loop μ-loop
 returns-2 c = search (needs, any-none)
 

@@ -1,4 +1,18 @@
-use Rattle.slots.proofs.Status as Status'
+-- `slots::held_from` meets its contract. Both loops keep that what is left decides: of the row the outer one, of the
+-- request's records the inner one.
+use types.Run.{OneOf}
+use denote.Enum.Declared.{tagOf, declared}
+use mathlib.Core.Logic.{⊎-elim}
+use mathlib.Core.List.{List, [], _∷_}
+use mathlib.Core.Bool.{Bool, true, false}
+use mathlib.Core.Path.{_≡_, refl}
+use Prim.Native.Nat.{ℕ, _≤_, _-_}
+use native.Mathlib.Omega.{arith}
+use borrow.Author.Tests.{not-true, not-false}
+use borrow.Author.Needs.{needs}
+use lib.ListN.{length, getD, drop}
+use Rattle.words.specs.Choice.{told}
+use Rattle.context.specs.declared.Record.{Record}
 use Rattle.slots.specs.declared.Status.the-variants.{Free, Running, Finished}
 use Rattle.slots.specs.declared.Status.{Status}
 use Rattle.slots.specs.Clashes.{records-more, records-found, records-none, running-is, held-is}
@@ -6,26 +20,9 @@ use Rattle.slots.specs.Scans.{any-more, any-found, any-none}
 use Rattle.slots.specs.Holds.{clashRecords, clashStatus, clashSlot}
 use Rattle.slots.specs.Slots.{slot}
 use Rattle.slots.specs.Rows.{anySlot}
-use Rattle.words.specs.Choice.{told}
-use Rattle.context.specs.declared.Record.{Record}
-use lib.ListN.{length, getD, drop}
-use borrow.Author.Tests.{not-true, not-false}
-use borrow.Author.Needs.{needs}
-use native.Mathlib.Omega.{arith}
-use Prim.Native.Nat.{ℕ, _≤_, _-_}
-use mathlib.Core.Logic.{⊎-elim}
-use mathlib.Core.List.{List, [], _∷_}
-use mathlib.Core.Bool.{Bool, true, false}
-use mathlib.Core.Path.{_≡_, refl}
-use denote.Enum.Declared.{tagOf, declared}
-use types.Run.{OneOf}
+use Rattle.slots.proofs.Status as Status'
 use Rattle.slots.proofs.held_from.Statement.{statement}
 use Rattle.slots.proofs.held_from.Tie as tie
-use Rattle.slots.proofs.held_from.Reads as reads
-use Rattle.slots.proofs.held_from.Lts as lts
-use Rattle.slots.proofs.clashes.Reads as clashes-reads
-use Rattle.tables.proofs.records_of.Reads as records-of-reads
-use Rattle.tables.proofs.writes.Reads as writes-reads
 
 -- a status whose tag is not a running one's
 not-running : (s : Status) (w : Bool) (Xs : List Record) → OneOf (0 ∷ 2 ∷ []) (tagOf (declared Status'.enum) s) → clashStatus w Xs s ≡ false
@@ -45,73 +42,56 @@ Inv-loop start row records writes i₀ i = (start ≤ i) × (i ≤ 8) × (anySlo
 abbrev μ-loop : tie.MeasureT-loop
 μ-loop start row records writes i₀ i = 8 - i
 
--- src/lib.rt:215:19
 records-of-requires : tie.Need-records-of-requires Inv-loop2 μ-loop2 Inv-loop μ-loop
 records-of-requires c κs = search needs
 
--- src/lib.rt:216:9
 writes-requires : tie.Need-writes-requires Inv-loop2 μ-loop2 Inv-loop μ-loop
 writes-requires c κs = search needs
 
--- src/lib.rt:217:5
 loop-holds : tie.Need-loop-holds Inv-loop2 μ-loop2 Inv-loop μ-loop
 loop-holds c = search needs
 
--- src/lib.rt:218:20
 mul-slot : tie.Need-mul-slot Inv-loop2 μ-loop2 Inv-loop μ-loop
 mul-slot c = search needs
 
--- src/lib.rt:218:20
 array-copy-out-slot : tie.Need-array-copy-out-slot Inv-loop2 μ-loop2 Inv-loop μ-loop
 array-copy-out-slot c = search needs
 
--- src/lib.rt:220:29
 enum-known-status : tie.Need-enum-known-status Inv-loop2 μ-loop2 Inv-loop μ-loop
 enum-known-status c = search needs
 
--- src/lib.rt:221:13
 add-i : tie.Need-add-i Inv-loop2 μ-loop2 Inv-loop μ-loop
 add-i c = search needs
 
--- src/lib.rt:217:5
 loop-less : tie.Need-loop-less Inv-loop2 μ-loop2 Inv-loop μ-loop
 loop-less c = search needs
 
--- src/lib.rt:217:5
 loop-again : tie.Need-loop-again Inv-loop2 μ-loop2 Inv-loop μ-loop
 loop-again c = search (needs, any-more, not-running)
 
--- src/lib.rt:223:9
 loop2-holds : tie.Need-loop2-holds Inv-loop2 μ-loop2 Inv-loop μ-loop
 loop2-holds c = search needs
 
--- src/lib.rt:224:42
 mul-clashes : tie.Need-mul-clashes Inv-loop2 μ-loop2 Inv-loop μ-loop
 mul-clashes c = search needs
 
--- src/lib.rt:224:42
 array-copy-out-clashes : tie.Need-array-copy-out-clashes Inv-loop2 μ-loop2 Inv-loop μ-loop
 array-copy-out-clashes c = search needs
 
--- src/lib.rt:224:17
 clashes-requires : tie.Need-clashes-requires Inv-loop2 μ-loop2 Inv-loop μ-loop
 clashes-requires c κs = search needs
 
--- src/lib.rt:225:17
 add-j : tie.Need-add-j Inv-loop2 μ-loop2 Inv-loop μ-loop
 add-j c = search needs
 
--- src/lib.rt:223:9
 loop2-less : tie.Need-loop2-less Inv-loop2 μ-loop2 Inv-loop μ-loop
 loop2-less c = search needs
 
--- src/lib.rt:223:9
 loop2-again : tie.Need-loop2-again Inv-loop2 μ-loop2 Inv-loop μ-loop
 loop2-again c =
     let no : c .before .clashes .result ≡ false = not-true _ (c .if1 .taken) in
     search (needs, told, records-more)
 
--- src/lib.rt:227:13
 returns : tie.Need-returns Inv-loop2 μ-loop2 Inv-loop μ-loop
 returns c =
     let yes : c .before .clashes .result ≡ true = not-false _ (c .if1 .left) in
@@ -123,20 +103,16 @@ returns c =
     let found = any-found _ _ _ _ eight (at .before .before .before .loop-test .taken) hit (top .loop .inv .2) in
     search (needs, held-is)
 
--- src/lib.rt:217:9
 add-i-2 : tie.Need-add-i-2 Inv-loop2 μ-loop2 Inv-loop μ-loop
 add-i-2 c = search needs
 
--- src/lib.rt:217:5
 loop-less-2 : tie.Need-loop-less-2 Inv-loop2 μ-loop2 Inv-loop μ-loop
 loop-less-2 c = search needs
 
--- src/lib.rt:217:5
 loop-again-2 : tie.Need-loop-again-2 Inv-loop2 μ-loop2 Inv-loop μ-loop
 loop-again-2 c =
     search (needs, any-more, records-none, running-is (c .before .before .before .status .given .1))
 
--- src/lib.rt:211:1
 returns-2 : tie.Need-returns-2 Inv-loop2 μ-loop2 Inv-loop μ-loop
 returns-2 c = search (needs, held-is, any-none)
 

@@ -1,15 +1,13 @@
-use Rattle.words.specs.Choice.{told}
-use Rattle.slots.specs.Scans.{free-more, free-found, free-none}
-use Rattle.slots.specs.Rows.{lowestFree}
-use lib.ListN.{drop}
+-- `slots::lowest_free` meets its contract. The loop keeps that what is left of the row decides.
 use mathlib.Core.Path.{_≡_}
 use Prim.Native.Nat.{_≤_, _-_}
 use borrow.Author.Needs.{needs}
+use lib.ListN.{drop}
+use Rattle.words.specs.Choice.{told}
+use Rattle.slots.specs.Scans.{free-more, free-found, free-none}
+use Rattle.slots.specs.Rows.{lowestFree}
 use Rattle.slots.proofs.lowest_free.Statement.{statement}
 use Rattle.slots.proofs.lowest_free.Tie as tie
-use Rattle.slots.proofs.lowest_free.Reads as reads
-use Rattle.slots.proofs.lowest_free.Lts as lts
-use Rattle.slots.proofs.is_occupied.Reads as is-occupied-reads
 
 abbrev Inv-loop : tie.InvT-loop
 Inv-loop row i₀ i = (i ≤ 8) × (lowestFree i (drop i row) ≡ lowestFree 0 row)
@@ -17,39 +15,30 @@ Inv-loop row i₀ i = (i ≤ 8) × (lowestFree i (drop i row) ≡ lowestFree 0 r
 abbrev μ-loop : tie.MeasureT-loop
 μ-loop row i₀ i = 8 - i
 
--- src/lib.rt:158:5
 loop-holds : tie.Need-loop-holds Inv-loop μ-loop
 loop-holds c = search needs
 
--- src/lib.rt:159:24
 mul-is-occupied : tie.Need-mul-is-occupied Inv-loop μ-loop
 mul-is-occupied c = search needs
 
--- src/lib.rt:159:24
 array-copy-out-is-occupied : tie.Need-array-copy-out-is-occupied Inv-loop μ-loop
 array-copy-out-is-occupied c = search needs
 
--- src/lib.rt:159:12
 is-occupied-requires : tie.Need-is-occupied-requires Inv-loop μ-loop
 is-occupied-requires c κs = search needs
 
--- src/lib.rt:160:13
 add-i : tie.Need-add-i Inv-loop μ-loop
 add-i c = search needs
 
--- src/lib.rt:158:5
 loop-less : tie.Need-loop-less Inv-loop μ-loop
 loop-less c = search needs
 
--- src/lib.rt:158:5
 loop-again : tie.Need-loop-again Inv-loop μ-loop
 loop-again c = search (needs, told, free-more)
 
--- src/lib.rt:162:9
 returns : tie.Need-returns Inv-loop μ-loop
 returns c = search (needs, told, free-found)
 
--- src/lib.rt:155:1
 returns-2 : tie.Need-returns-2 Inv-loop μ-loop
 returns-2 c = search (needs, free-none)
 

@@ -1,47 +1,35 @@
+-- `states::clashes_behind` meets its contract.
 use borrow.Author.Needs.{needs}
 use Rattle.states.proofs.clashes_behind.Statement.{statement}
 use Rattle.states.proofs.clashes_behind.Tie as tie
-use Rattle.states.proofs.clashes_behind.Reads as reads
-use Rattle.states.proofs.clashes_behind.Lts as lts
-use Rattle.slots.proofs.held_from.Reads as held-from-reads
 
--- src/lib.rt:83:16
 mul-slot : tie.Need-mul-slot
 mul-slot c = search needs
 
--- src/lib.rt:83:16
 array-copy-out-slot : tie.Need-array-copy-out-slot
 array-copy-out-slot c = search needs
 
--- src/lib.rt:86:25
 enum-told : tie.Need-enum-told
 enum-told c = search needs
 
--- src/lib.rt:87:25
 enum-known-status : tie.Need-enum-known-status
 enum-known-status c = search needs
 
--- src/lib.rt:87:62
 add-held-from : tie.Need-add-held-from
 add-held-from c = search needs
 
--- src/lib.rt:87:40
 held-from-requires : tie.Need-held-from-requires
 held-from-requires c κs = search needs
 
--- src/lib.rt:88:35
 enum-told-2 : tie.Need-enum-told-2
 enum-told-2 c = search needs
 
--- src/lib.rt:79:1
 returns : tie.Need-returns
 returns c = rw (c .enum-told .given .1)
 
--- src/lib.rt:79:1
 returns-2 : tie.Need-returns-2
 returns-2 c = rw (c .before .before .status .given .1) (c .held-from .ensures)
 
--- src/lib.rt:79:1
 returns-3 : tie.Need-returns-3
 returns-3 c = rw (c .enum-told2 .given .1)
 

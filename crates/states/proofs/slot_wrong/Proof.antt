@@ -1,40 +1,29 @@
+-- `states::slot_wrong` meets its contract.
 use borrow.Author.Needs.{needs}
 use Rattle.states.proofs.slot_wrong.Statement.{statement}
 use Rattle.states.proofs.slot_wrong.Tie as tie
-use Rattle.states.proofs.slot_wrong.Reads as reads
-use Rattle.states.proofs.slot_wrong.Lts as lts
-use Rattle.states.proofs.finished_wrong.Reads as finished-wrong-reads
-use Rattle.states.proofs.running_wrong.Reads as running-wrong-reads
 
--- src/lib.rt:47:25
 enum-told : tie.Need-enum-told
 enum-told c = search needs
 
--- src/lib.rt:48:25
 enum-known-status : tie.Need-enum-known-status
 enum-known-status c = search needs
 
--- src/lib.rt:48:44
 running-wrong-requires : tie.Need-running-wrong-requires
 running-wrong-requires c κs = search needs
 
--- src/lib.rt:49:26
 enum-known-status-2 : tie.Need-enum-known-status-2
 enum-known-status-2 c = search needs
 
--- src/lib.rt:49:45
 finished-wrong-requires : tie.Need-finished-wrong-requires
 finished-wrong-requires c κs = search needs
 
--- src/lib.rt:42:1
 returns : tie.Need-returns
 returns c = search needs
 
--- src/lib.rt:42:1
 returns-2 : tie.Need-returns-2
 returns-2 c = rw (c .before .before .status .given .1) (c .running-wrong .ensures)
 
--- src/lib.rt:42:1
 returns-3 : tie.Need-returns-3
 returns-3 c = rw (c .before .before .status2 .given .1) (c .finished-wrong .ensures)
 

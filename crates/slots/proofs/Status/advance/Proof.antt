@@ -1,48 +1,36 @@
-use Rattle.slots.specs.Totals.{is-positive, moves-on, finishes}
+-- `slots::Status::advance` meets its contract.
 use borrow.Author.Needs.{needs}
+use Rattle.slots.specs.Totals.{is-positive, moves-on, finishes}
 use Rattle.slots.proofs.Status.advance.Statement.{statement}
 use Rattle.slots.proofs.Status.advance.Tie as tie
-use Rattle.slots.proofs.Status.advance.Reads as reads
-use Rattle.slots.proofs.Status.advance.Lts as lts
-use Rattle.tables.proofs.total.Reads as total-reads
 
--- src/lib.rt:57:29
 enum-told : tie.Need-enum-told
 enum-told c = search needs
 
--- src/lib.rt:58:29
 enum-known-self : tie.Need-enum-known-self
 enum-known-self c = search needs
 
--- src/lib.rt:59:21
 total-requires : tie.Need-total-requires
 total-requires c κs = search needs
 
--- src/lib.rt:60:28
 sub-if1 : tie.Need-sub-if1
 sub-if1 c = search (needs, is-positive)
 
--- src/lib.rt:61:53
 add-t8 : tie.Need-add-t8
 add-t8 c = search needs
 
--- src/lib.rt:61:21
 returns : tie.Need-returns
 returns c = search (needs, moves-on)
 
--- src/lib.rt:65:39
 enum-told-2 : tie.Need-enum-told-2
 enum-told-2 c = search needs
 
--- src/lib.rt:53:5
 returns-2 : tie.Need-returns-2
 returns-2 c = search needs
 
--- src/lib.rt:53:5
 returns-3 : tie.Need-returns-3
 returns-3 c = search (needs, finishes)
 
--- src/lib.rt:53:5
 returns-4 : tie.Need-returns-4
 returns-4 c = search needs
 
