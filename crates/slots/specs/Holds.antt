@@ -1,7 +1,6 @@
 -- "A running request holds its record, a reader together with other readers, a writer alone."
-use mathlib.Core.Bool.{Bool, true, false}
+use mathlib.Core.Bool.{Bool, false}
 use mathlib.Core.List.{List, [], _∷_}
-use Prim.Native.Nat.{ℕ}
 use Rattle.words.specs.Choice.{both, either}
 use Rattle.context.specs.Layout.{sameRecord}
 use Rattle.context.specs.declared.Record.{Record}

@@ -1,5 +1,10 @@
--- Slots by value, the row of eight, holds, and possible states.
+-- Slots by value, the row of eight, and holds.
 pub mod Slots
 pub mod Rows
 pub mod Holds
-pub mod Possible
+pub mod Totals
+pub mod Scans
+pub mod Clashes
+pub mod Neither
+pub mod Every
+pub mod Laws

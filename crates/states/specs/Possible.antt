@@ -1,26 +1,33 @@
 -- 0x87, "state handed in impossible", condition by condition.
-use mathlib.Core.Bool.{Bool, true, false, not}
+use mathlib.Core.Bool.{Bool, false, not}
 use mathlib.Core.List.{List}
 use Prim.Native.Nat.{ℕ}
 use lib.Dec.{eqb, ltb}
 use Rattle.words.specs.Choice.{pick, both, either}
 use Rattle.context.specs.Layout.{fitsStore}
 use Rattle.context.specs.declared.Logs.{Logs}
+use Rattle.requests.specs.declared.Request.{Request}
 use Rattle.tables.specs.Records.{numbersHold}
 use Rattle.tables.specs.Bursts.{totalOf}
-use Rattle.slots.specs.declared.Hca.{Hca}
+use Rattle.states.specs.declared.Hca.{Hca}
 use Rattle.slots.specs.declared.Slot.{Slot}
 use Rattle.slots.specs.declared.Status.{Status}
 use Rattle.slots.specs.declared.Status.the-variants.{Free, Running, Finished}
 use Rattle.slots.specs.Rows.{anySlot, anyRest, isOccupied, hasCommand}
 use Rattle.slots.specs.Holds.{heldAgainst}
 
 -- "a slot's request .. whose .. index, PSN or state would get 2 or 3 ..; bursts moved not below (running) or not equal to
 -- (finished) its total"
+abbrev pub runningWrong : Logs → Request → ℕ → Bool
+runningWrong g q m = either (not (numbersHold g q)) (not (ltb m (totalOf q)))
+
+abbrev pub finishedWrong : Logs → Request → ℕ → Bool
+finishedWrong g q m = either (not (numbersHold g q)) (not (eqb m (totalOf q)))
+
 abbrev pub statusWrong : Logs → Status → Bool
 statusWrong g Free = false
-statusWrong g (Running q m) = either (not (numbersHold g q)) (not (ltb m (totalOf q)))
-statusWrong g (Finished q m) = either (not (numbersHold g q)) (not (eqb m (totalOf q)))
+statusWrong g (Running q m) = runningWrong g q m
+statusWrong g (Finished q m) = finishedWrong g q m
 
 abbrev pub slotWrong : Logs → Slot → Bool
 slotWrong g s = statusWrong g (s .status)
@@ -44,13 +51,15 @@ clashBefore s ss = statusClash (s .status) ss
 unfoldable pub holdsClash : List Slot → Bool
 holdsClash row = anyRest clashBefore row
 
--- "closed with an occupied slot; open with counts past their ranges or the store; a slot's request ..; two occupied slots
--- with commands; running slots whose holds clash"
-unfoldable pub impossible : Hca → List Slot → Bool
-impossible h row =
-    pick (h .«open»)
-    (either (not (fitsStore (h .logs) (h .«store_len»)))
-    (either (anySlot (slotWrong (h .logs)) row)
+-- "open with counts past their ranges or the store; a slot's request ..; two occupied slots with commands; running slots
+-- whose holds clash"
+unfoldable pub openImpossible : Logs → ℕ → List Slot → Bool
+openImpossible g store row =
+    either (not (fitsStore g store))
+    (either (anySlot (slotWrong g) row)
     (either (twoCommands row)
-    (holdsClash row))))
-    (anySlot isOccupied row)
+    (holdsClash row)))
+
+-- "closed with an occupied slot"
+unfoldable pub impossible : Hca → List Slot → Bool
+impossible h row = pick (h .«open») (openImpossible (h .logs) (h .«store_len») row) (anySlot isOccupied row)

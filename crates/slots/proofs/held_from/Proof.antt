@@ -1,0 +1,147 @@
+-- `slots::held_from` meets its contract. Both loops keep that what is left decides: of the row the outer one, of the
+-- request's records the inner one.
+use types.Run.{OneOf}
+use denote.Enum.Declared.{tagOf, declared}
+use mathlib.Core.Logic.{⊎-elim}
+use mathlib.Core.List.{List, [], _∷_}
+use mathlib.Core.Bool.{Bool, true, false}
+use mathlib.Core.Path.{_≡_, refl}
+use Prim.Native.Nat.{ℕ, _≤_, _-_}
+use native.Mathlib.Omega.{arith}
+use borrow.Author.Tests.{not-true, not-false}
+use borrow.Author.Needs.{needs}
+use lib.ListN.{length, getD, drop}
+use Rattle.words.specs.Choice.{told}
+use Rattle.context.specs.declared.Record.{Record}
+use Rattle.slots.specs.declared.Status.the-variants.{Free, Running, Finished}
+use Rattle.slots.specs.declared.Status.{Status}
+use Rattle.slots.specs.Clashes.{records-more, records-found, records-none, running-is, held-is}
+use Rattle.slots.specs.Scans.{any-more, any-found, any-none}
+use Rattle.slots.specs.Holds.{clashRecords, clashStatus, clashSlot}
+use Rattle.slots.specs.Slots.{slot}
+use Rattle.slots.specs.Rows.{anySlot}
+use Rattle.slots.proofs.Status as Status'
+use Rattle.slots.proofs.held_from.Statement.{statement}
+use Rattle.slots.proofs.held_from.Tie as tie
+
+-- a status whose tag is not a running one's
+not-running : (s : Status) (w : Bool) (Xs : List Record) → OneOf (0 ∷ 2 ∷ []) (tagOf (declared Status'.enum) s) → clashStatus w Xs s ≡ false
+not-running Free w Xs t = refl
+not-running (Running q m) w Xs t = absurd (⊎-elim (λ (e : _≡_ {A = ℕ} 1 0). omega arith) (λ (e : _≡_ {A = ℕ} 1 2). omega arith) t)
+not-running (Finished q m) w Xs t = refl
+
+abbrev Inv-loop2 : tie.InvT-loop2
+Inv-loop2 start row records writes i running j₀ j = (j ≤ 1) × (clashRecords running writes (drop j records) ≡ clashRecords running writes records)
+
+abbrev μ-loop2 : tie.MeasureT-loop2
+μ-loop2 start row records writes i running j₀ j = 1 - j
+
+abbrev Inv-loop : tie.InvT-loop
+Inv-loop start row records writes i₀ i = (start ≤ i) × (i ≤ 8) × (anySlot (clashSlot writes records) (drop i row) ≡ anySlot (clashSlot writes records) (drop start row))
+
+abbrev μ-loop : tie.MeasureT-loop
+μ-loop start row records writes i₀ i = 8 - i
+
+records-of-requires : tie.Need-records-of-requires Inv-loop2 μ-loop2 Inv-loop μ-loop
+records-of-requires c κs = search needs
+
+writes-requires : tie.Need-writes-requires Inv-loop2 μ-loop2 Inv-loop μ-loop
+writes-requires c κs = search needs
+
+loop-holds : tie.Need-loop-holds Inv-loop2 μ-loop2 Inv-loop μ-loop
+loop-holds c = search needs
+
+mul-slot : tie.Need-mul-slot Inv-loop2 μ-loop2 Inv-loop μ-loop
+mul-slot c = search needs
+
+array-copy-out-slot : tie.Need-array-copy-out-slot Inv-loop2 μ-loop2 Inv-loop μ-loop
+array-copy-out-slot c = search needs
+
+enum-known-status : tie.Need-enum-known-status Inv-loop2 μ-loop2 Inv-loop μ-loop
+enum-known-status c = search needs
+
+add-i : tie.Need-add-i Inv-loop2 μ-loop2 Inv-loop μ-loop
+add-i c = search needs
+
+loop-less : tie.Need-loop-less Inv-loop2 μ-loop2 Inv-loop μ-loop
+loop-less c = search needs
+
+loop-again : tie.Need-loop-again Inv-loop2 μ-loop2 Inv-loop μ-loop
+loop-again c = search (needs, any-more, not-running)
+
+loop2-holds : tie.Need-loop2-holds Inv-loop2 μ-loop2 Inv-loop μ-loop
+loop2-holds c = search needs
+
+mul-clashes : tie.Need-mul-clashes Inv-loop2 μ-loop2 Inv-loop μ-loop
+mul-clashes c = search needs
+
+array-copy-out-clashes : tie.Need-array-copy-out-clashes Inv-loop2 μ-loop2 Inv-loop μ-loop
+array-copy-out-clashes c = search needs
+
+clashes-requires : tie.Need-clashes-requires Inv-loop2 μ-loop2 Inv-loop μ-loop
+clashes-requires c κs = search needs
+
+add-j : tie.Need-add-j Inv-loop2 μ-loop2 Inv-loop μ-loop
+add-j c = search needs
+
+loop2-less : tie.Need-loop2-less Inv-loop2 μ-loop2 Inv-loop μ-loop
+loop2-less c = search needs
+
+loop2-again : tie.Need-loop2-again Inv-loop2 μ-loop2 Inv-loop μ-loop
+loop2-again c =
+    let no : c .before .clashes .result ≡ false = not-true _ (c .if1 .taken) in
+    search (needs, told, records-more)
+
+returns : tie.Need-returns Inv-loop2 μ-loop2 Inv-loop μ-loop
+returns c =
+    let yes : c .before .clashes .result ≡ true = not-false _ (c .if1 .left) in
+    let at = c .before .before .before .before .before .before in
+    let top = at .before .before .before .before in
+    let hit : clashSlot (top .before .writes .result) (top .before .before .records-of .result) (getD (top .before .before .before .args .t1) (top .loop .i) (slot Free)) ≡ true =
+    running-is (at .status .given .1) _ _ true (search (needs, told, records-found (c .before .before .before .before .loop2 .j))) in
+    let eight : length (top .before .before .before .args .t1) ≡ 8 = search needs in
+    let found = any-found _ _ _ _ eight (at .before .before .before .loop-test .taken) hit (top .loop .inv .2) in
+    search (needs, held-is)
+
+add-i-2 : tie.Need-add-i-2 Inv-loop2 μ-loop2 Inv-loop μ-loop
+add-i-2 c = search needs
+
+loop-less-2 : tie.Need-loop-less-2 Inv-loop2 μ-loop2 Inv-loop μ-loop
+loop-less-2 c = search needs
+
+loop-again-2 : tie.Need-loop-again-2 Inv-loop2 μ-loop2 Inv-loop μ-loop
+loop-again-2 c =
+    search (needs, any-more, records-none, running-is (c .before .before .before .status .given .1))
+
+returns-2 : tie.Need-returns-2 Inv-loop2 μ-loop2 Inv-loop μ-loop
+returns-2 c = search (needs, held-is, any-none)
+
+pub held-from-spec : {M : Type 1} → statement M
+held-from-spec =
+    tie.close
+    (tie.spec
+    Inv-loop2
+    μ-loop2
+    Inv-loop
+    μ-loop
+    records-of-requires
+    writes-requires
+    loop-holds
+    mul-slot
+    array-copy-out-slot
+    enum-known-status
+    add-i
+    loop-less
+    loop-again
+    loop2-holds
+    mul-clashes
+    array-copy-out-clashes
+    clashes-requires
+    add-j
+    loop2-less
+    loop2-again
+    returns
+    add-i-2
+    loop-less-2
+    loop-again-2
+    returns-2)

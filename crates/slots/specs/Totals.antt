@@ -1,0 +1,48 @@
+-- Every request moves a burst, so a slot that is accepted has one to move; and one burst more, as the code counts it.
+use mathlib.Core.Path.{_≡_}
+use Prim.Native.Nat.{ℕ, _+_, _-_, _≤_, _<_}
+use native.Mathlib.Omega.{arith}
+use borrow.Author.Tests.{lt-ltb, le-ltb}
+use lib.Dec.{lit≤}
+use Rattle.requests.specs.declared.Command.{Command}
+use Rattle.requests.specs.declared.Command.the-variants as command
+use Rattle.requests.specs.declared.Engine.{Engine}
+use Rattle.requests.specs.declared.Engine.the-variants as engine
+use Rattle.requests.specs.declared.Request.{Request}
+use Rattle.requests.specs.declared.Request.the-variants as request
+use Rattle.tables.specs.Bursts.{commandTotal, engineTotal, totalOf}
+use Rattle.slots.specs.Slots.{advancedStatus}
+use Rattle.slots.specs.declared.Status.{Status}
+use Rattle.slots.specs.declared.Status.the-variants.{Running, Finished}
+
+command-positive : (c : Command) → 1 ≤ commandTotal c
+command-positive (command.Sw2Hw o) = lit≤ tt
+command-positive (command.Hw2Sw o) = lit≤ tt
+command-positive (command.ResizeCq n) = lit≤ tt
+command-positive (command.QueryQp n) = lit≤ tt
+command-positive (command.ModifyQp e n) = lit≤ tt
+
+engine-positive : (e : Engine) → 1 ≤ engineTotal e
+engine-positive (engine.ReadState n) = lit≤ tt
+engine-positive (engine.ReadNext n) = lit≤ tt
+engine-positive (engine.ReadAll n) = lit≤ tt
+engine-positive (engine.Write p n psn s) = lit≤ tt
+
+pub total-positive : (q : Request) → 1 ≤ totalOf q
+total-positive (request.Command c) = command-positive c
+total-positive (request.Engine e) = engine-positive e
+
+-- a number that is a request's total
+pub is-positive : (q : Request) (t : ℕ) → t ≡ totalOf q → 1 ≤ t
+is-positive q t e = rw e (total-positive q)
+
+-- a burst that is not the last, and the last
+pub moves-on : (s : Status) (q : Request) (m t : ℕ) → s ≡ Running q m → t ≡ totalOf q → m < t - 1 → Running q (m + 1) ≡ advancedStatus s
+moves-on s q m t e f h =
+    let k : m + 1 < totalOf q = omega (arith, f) in
+    rw (e, lt-ltb (m + 1) (totalOf q) k)
+
+pub finishes : (s : Status) (q : Request) (m t : ℕ) → s ≡ Running q m → t ≡ totalOf q → t - 1 ≤ m → Finished q t ≡ advancedStatus s
+finishes s q m t e f h =
+    let k : totalOf q ≤ m + 1 = omega (arith, f) in
+    rw (e, le-ltb (m + 1) (totalOf q) k, f)
