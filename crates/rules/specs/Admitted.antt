@@ -34,8 +34,9 @@ use Rattle.bursts.specs.Copies.{copies, length-copies, copies-in}
 use Rattle.bursts.specs.Table.{bursts-fit, bursts-room, need-small}
 use Rattle.bursts.specs.Effects.{writes-whole}
 use Rattle.slots.specs.Slots.{slot, accepted}
-use Rattle.slots.specs.Rows.{anySlot, isOccupied, occupiedStatus, lowestFree}
-use Rattle.slots.specs.Holds.{clashPair, clashRecords, clashStatus, clashSlot, heldAgainst}
+use Rattle.slots.specs.Rows.{lowestFree}
+use Rattle.slots.specs.Holds.{clashPair, heldAgainst}
+use Rattle.slots.specs.Laws.{held-none, no-writer, Lowest, lowest-free-is}
 use Rattle.slots.specs.declared.Found.{Found}
 use Rattle.slots.specs.declared.Found.the-variants.{At, Nothing}
 use Rattle.slots.specs.declared.Slot.{Slot}
@@ -52,7 +53,7 @@ use Rattle.rules.specs.Book.{Fed, onRecord}
 use Rattle.rules.specs.Calls.{Note, nothing, refused as refusedNote, accepted as acceptedNote, finished, emptied, fed, requestNote}
 use Rattle.rules.specs.Agree.{whole-bytes}
 use Rattle.rules.specs.System.{Place, gate, at, gateBytes, gatedBy, Sees, Writes, num, Left, left, MidOf, system}
-use Rattle.rules.specs.View.{lookAt, slotView, slotAt, viewOf, Fine, Sized, any-at, either-none, look-valid, look-same, length-look, others}
+use Rattle.rules.specs.View.{lookAt, slotView, slotAt, viewOf, Fine, Sized, look-valid, look-same, length-look, others}
 
 -- the note of a call, for the journal of `serial`
 abbrev pub noteFor : Note → Noted system
@@ -68,32 +69,20 @@ stays w = record { ended = []; event = idle (record { looks = λ X. refl; slots 
 
 -- ---- holds
 
-held-none : (row : List Slot) (q : Request) → heldAgainst row q ≡ false → (j : ℕ) (r : Request) (m : ℕ) → statusAt j row ≡ Running r m
-    → clashPair r (writesOf q) (touched q) ≡ false
-unfolding heldAgainst clashRecords statusAt
-held-none row q e j r m s =
-    either-none _ _
-    (subst (λ (t : Status). clashStatus (writesOf q) (recordsOf q) t ≡ false) s (any-at (clashSlot (writesOf q) (recordsOf q)) row e refl j)) .0
-
-no-clash : (r q : Request) → clashPair r (writesOf q) (touched q) ≡ false → touched r ≡ touched q → T (writesOf r) ⊎ T (writesOf q) → ⊥
-no-clash r q e s o = go (writesOf r) (writesOf q) o (sym (ap (λ (b : Bool). both b (either (writesOf r) (writesOf q))) (record-same (touched r) (touched q) s)) ∙ e)
-  where
-    go : (a b : Bool) → T a ⊎ T b → both true (either a b) ≡ false → ⊥
-    go true b x f = true≢false f
-    go false true x f = true≢false f
-    go false false (inl x) f = x
-    go false false (inr x) f = x
+is-true : (b : Bool) → T b → b ≡ true
+is-true true t = refl
+is-true false t = absurd t
 
 passes : (r q : Request) (a b : List ℕ) → clashPair r (writesOf q) (touched q) ≡ false → Passes system (onRecord r a) (onRecord q b)
 passes r q a b h = record { out = out; back = back; also = tt }
   where
     out : (X : Place) → Writes (onRecord r a) X → Sees (onRecord q b) X → ⊥
     out gate x y = x
-    out (at X) x y = no-clash r q h (sym (x .1) ∙ y) (inl (x .0))
+    out (at X) x y = no-writer q r h (sym (x .1) ∙ y) (inl (is-true (writesOf r) (x .0)))
 
     back : (X : Place) → Writes (onRecord q b) X → Sees (onRecord r a) X → ⊥
     back gate x y = x
-    back (at X) x y = no-clash r q h (sym y ∙ x .1) (inr (x .0))
+    back (at X) x y = no-writer q r h (sym y ∙ x .1) (inr (is-true (writesOf q) (x .0)))
 
 -- what a slot that runs shows
 pub record Seen (k : ℕ) (room : List ℕ) (s : Status) (f : Fed) (p : Left) : Type 0 where
@@ -108,38 +97,11 @@ seen-runs k room (Running q m) f p e = record { request = q; moved = m; is = ref
 seen-runs k room (Finished q m) f p e = let z : _≡_ {A = ℕ} 0 1 = cc in absurd (omega arith)
 
 pub passes-all : (w : World) (q : Request) (mail : List ℕ) → heldAgainst (w .row) q ≡ false → PassesAll system (viewOf w) (onRecord q mail)
+unfolding statusAt
 passes-all w q mail h j f p e =
     let s : Seen j (w .room) (statusAt j (w .row)) f p = seen-runs j (w .room) (statusAt j (w .row)) f p e in
     subst (λ (x : Fed). Passes system x (onRecord q mail)) (s .asks)
     (passes (s .request) q (frontOf j (s .request) (w .room)) mail (held-none (w .row) q h j (s .request) (s .moved) (s .is)))
-
--- ---- the lowest free slot
-
-pub lowest-at : (i : ℕ) (row : List Slot) (k : ℕ) → lowestFree i row ≡ At k → (j : ℕ) × (k ≡ i + j) × (j < length row) × (getD row j (slot Free) .status ≡ Free)
-unfolding lowestFree
-lowest-at i [] k e = let z : _≡_ {A = ℕ} 0 1 = cc in absurd (omega arith)
-lowest-at i (s ∷ row) k e = go (s .status) refl (lowest-at (suc i) row k)
-  where
-    Here : Type 0
-    Here = (j : ℕ) × (k ≡ i + j) × (j < length (s ∷ row)) × (getD (s ∷ row) j (slot Free) .status ≡ Free)
-
-    Behind : Type 0
-    Behind = lowestFree (suc i) row ≡ At k → (j : ℕ) × (k ≡ suc i + j) × (j < length row) × (getD row j (slot Free) .status ≡ Free)
-
-    free : s .status ≡ Free → Here
-    free f =
-        let g : At i ≡ At k = sym (ap (λ (t : Status). pick (occupiedStatus t) (lowestFree (suc i) row) (At i)) f) ∙ e in
-        let h : i ≡ k = cc in (0, omega arith, omega arith, f)
-
-    more : occupiedStatus (s .status) ≡ true → Behind → Here
-    more f ih =
-        let h = ih (sym (ap (λ (b : Bool). pick b (lowestFree (suc i) row) (At i)) f) ∙ e) in
-        (suc (h .0), omega (arith, h .1), omega (arith, h .2), h .3)
-
-    go : (t : Status) → s .status ≡ t → Behind → Here
-    go Free f ih = free f
-    go (Running q m) f ih = more (ap occupiedStatus f) ih
-    go (Finished q m) f ih = more (ap occupiedStatus f) ih
 
 -- ---- a reader's record is a queue pair's
 
@@ -256,9 +218,8 @@ module _ (w : World) (z : Sized w) (o : w .hca .«open» ≡ true) (fits : inUse
     placed-ok : (f : Found) → lowestFree 0 (w .row) ≡ f → permissionOf q (recordNow w q) ≡ Permitted → Ok (placed w q mail f)
     unfolding placed statusAt
     placed-ok (At k) e p =
-        let l = lowest-at 0 (w .row) k e in
-        let i : k ≡ l .0 = omega (arith, l .1) in
-        accept-ok k (omega (arith, l .2, z .rowed)) (ap (λ (j : ℕ). getD (w .row) j (slot Free) .status) i ∙ l .3) p
+        let l : Lowest (w .row) k = lowest-free-is (w .row) k e in
+        accept-ok k (omega (arith, l .inside, z .rowed)) (l .free) p
     placed-ok Nothing e p = stays w
 
     judged-ok : (v : Verdict) → permissionOf q (recordNow w q) ≡ v → Ok (judged w q mail v)

@@ -46,7 +46,7 @@ use Rattle.rules.specs.Collections.{Collected, collectFinished, collectO
 use Rattle.rules.specs.Resets.{Reset, resetOf}
 use Rattle.rules.specs.Calls.{Call, command, engineRequest, step, collection, resetting, worldAfter, answerOf, noteOf, commandFound, isDone, isInit, initialises, resetEnds, startsAgain}
 use Rattle.rules.specs.Demand3.{Entry, noted, Run, runFrom}
-use Rattle.rules.specs.View.{closed-free, open-possible, Runs, running}
+use Rattle.rules.specs.View.{closed-free, Runs, running}
 use Rattle.rules.specs.Started.{Started, started}
 use Rattle.rules.specs.Frame.{command-is, engine-is, Change, kept, burstMoved, records-framed}
 use Rattle.rules.specs.Demand2.{Along, StateMove, stays, moves, Demand2, Statement}

@@ -4,7 +4,7 @@ use mathlib.Core.Bool.{Bool, true, false, not, true≢false, false≢true}
 use mathlib.Core.List.{List, [], _∷_}
 use Prim.Native.Nat.{ℕ, _+_, _*_, _≤_, _<_}
 use native.Mathlib.Omega.{arith}
-use borrow.Author.Tests.{ltb-true, ltb-false}
+use borrow.Author.Tests.{ltb-true, ltb-false, not-false}
 use lib.Dec.{T, ltb}
 use lib.ListN.{length, getD, set, take}
 use lib.Seq.{getD-set-same}
@@ -40,6 +40,8 @@ use Rattle.tables.specs.Records.{recordOf as touched}
 use Rattle.answers.specs.Answers.{answerOf as answers, answerSize}
 use Rattle.answers.specs.Laws.{length-answer}
 use Rattle.slots.specs.Slots.{slot, freed as freedSlot}
+use Rattle.slots.specs.Neither.{neither-left, neither-right}
+use Rattle.slots.specs.Every.{none-each}
 use Rattle.slots.specs.Rows.{anySlot, isOccupied, hasCommand, occupiedStatus}
 use Rattle.slots.specs.declared.Slot.{Slot}
 use Rattle.slots.specs.declared.Status.{Status}
@@ -62,7 +64,7 @@ use Rattle.rules.specs.Resets.{Reset, resetOf}
 use Rattle.rules.specs.Book.{Fed, onRecord, closeHca, nop}
 use Rattle.rules.specs.Calls.{Note, nothing, Call, command, engineRequest, step, collection, resetting, answerOf, worldAfter, opFound as opAsked, registerFound, commandFound, numberFound, engineFound, requestNote, onceNote, commandNote, engineNote, collectNote, noteOf, isDone, isInit, initialises, resetEnds, startsAgain}
 use Rattle.rules.specs.System.{Place, gate, at, gateBytes, gatedBy, Sees, Writes, num, eff, Left, left, system}
-use Rattle.rules.specs.View.{lookAt, slotView, slotAt, viewOf, Fine, Sized, lent-sized, lent-store, either-none, not-no, any-at, closed-free, Possible, open-possible, Runs, running, look-same, others, in-row}
+use Rattle.rules.specs.View.{lookAt, slotView, slotAt, viewOf, Fine, Sized, lent-sized, closed-free, open-fits, Runs, running, look-same, others, in-row}
 use Rattle.rules.specs.Admitted.{noteFor, stays, Seen, seen-runs, admit-ok}
 use Rattle.rules.specs.Moved.{moved-ok}
 use Rattle.rules.specs.Found.{command-valid, record-open, close-open, close-op, engine-valid}
@@ -88,8 +90,8 @@ module _ (w : World) (lent : badLent w ≡ false) (state : badState w ≡ false)
   z : Sized w
   z = lent-sized w lent
 
-  open-fits : w .hca .«open» ≡ true → inUse (w .hca .logs) ≤ length (w .store)
-  open-fits o = omega (arith, open-possible w state o .within, lent-store w lent o)
+  in-store : w .hca .«open» ≡ true → inUse (w .hca .logs) ≤ length (w .store)
+  in-store = open-fits w lent state
 
   -- ---- a step
 
@@ -100,8 +102,8 @@ module _ (w : World) (lent : badLent w ≡ false) (state : badState w ≡ false)
     where
       go : (b : Bool) → w .hca .«open» ≡ b → Fine w (stepOn w k (Running q m) .world) none
       go true o =
-          let r : Runs w q m = running w (open-possible w state o) k q m e in
-          moved-ok w z (open-fits o) k q m e (r .valid) (r .more)
+          let r : Runs w q m = running w state o k q m e in
+          moved-ok w z (in-store o) k q m e (r .valid) (r .more)
       go false o =
           let f : Running q m ≡ Free = sym e ∙ closed-free w state o k in
           let x : _≡_ {A = ℕ} 0 1 = cc in absurd (omega arith)
@@ -154,7 +156,7 @@ module _ (w : World) (lent : badLent w ≡ false) (state : badState w ≡ false)
   unfolding statusAt
   none-running n j f p e =
       let s : Seen j (w .room) (statusAt j (w .row)) f p = seen-runs j (w .room) (statusAt j (w .row)) f p e in
-      let a : occupiedStatus (statusAt j (w .row)) ≡ false = any-at isOccupied (w .row) n refl j in
+      let a : occupiedStatus (statusAt j (w .row)) ≡ false = none-each isOccupied (w .row) refl n j in
       false≢true (sym a ∙ ap occupiedStatus (s .is))
 
   closed-ok : w .hca .«open» ≡ true → anySlot isOccupied (w .row) ≡ false → Fine w (closed w) (at-once closeHca [])
@@ -208,11 +210,11 @@ module _ (w : World) (lent : badLent w ≡ false) (state : badState w ≡ false)
       asked-ok found.CloseHca e i =
           closed-ok (close-open (w .hca .logs) o p n (w .hca .«open») e system-fits)
           (sym (ap (λ (b : Bool). both b (anySlot isOccupied (w .row))) (close-op (w .hca .logs) o p n e))
-          ∙ either-none (anySlot hasCommand (w .row)) (both (isClose o) (anySlot isOccupied (w .row))) idle-row .1)
+          ∙ neither-right (anySlot hasCommand (w .row)) (both (isClose o) (anySlot isOccupied (w .row))) idle-row)
       asked-ok found.Nop e i = nop-ok
       asked-ok (found.OnRecord c) e i =
           let opened : w .hca .«open» ≡ true = record-open (w .hca .logs) o p n c (w .hca .«open») e system-fits in
-          admit-ok w z opened (open-fits opened) (request.Command c) mail (command-valid (w .hca .logs) o p n c e)
+          admit-ok w z opened (in-store opened) (request.Command c) mail (command-valid (w .hca .logs) o p n c e)
       asked-ok found.Wrong e i = stays w
 
     served-ok : (c : HcrCommand) (f : OpFound) → Ok (opAsked (w .hca .logs) c f) (served w mail c f)
@@ -238,7 +240,7 @@ module _ (w : World) (lent : badLent w ≡ false) (state : badState w ≡ false)
       → Fine w (engineAsked w f .world) (noteFor (engineNote f (engineAsked w f .answer)))
   unfolding engineAsked
   engine-asked-ok k index psn code o (asked′.Asked e) h =
-      admit-ok w z o (open-fits o) (request.Engine e) [] (engine-valid (w .hca .logs) k index psn code e h)
+      admit-ok w z o (in-store o) (request.Engine e) [] (engine-valid (w .hca .logs) k index psn code e h)
   engine-asked-ok k index psn code o asked′.Wrong h = stays w
 
   engine-served-ok : (index psn code : ℕ) (f : NumberFound)
@@ -248,7 +250,7 @@ module _ (w : World) (lent : badLent w ≡ false) (state : badState w ≡ false)
   engine-served-ok index psn code (number.Served k) =
       by-pick (λ (s : Submitted). Fine w (s .world) (noteFor (engineNote (engineOf (w .hca .logs) k index psn code) (s .answer)))) (not (w .hca .«open»)) _ _
       (λ _. engine-plainly w (engineOf (w .hca .logs) k index psn code) cause.BadSystemState refl)
-      (λ o. engine-asked-ok k index psn code (not-no _ o) (engineOf (w .hca .logs) k index psn code) refl)
+      (λ o. engine-asked-ok k index psn code (not-false (w .hca .«open») o) (engineOf (w .hca .logs) k index psn code) refl)
 
 -- ---- every call
 
@@ -262,7 +264,7 @@ command-ok w bytes mail =
     (λ a. by-pick (λ (s : Submitted). pick (isInit f) (isDone (s .answer)) false ≡ false → Fine w (s .world) (noteFor (commandNote mail f (s .answer))))
     (badState w) _ _
     (λ _ _. subst (Fine w w) (quiet mail f cause.Impossible refl) (stays w))
-    (λ b. register-ok w (either-none (badLent w) (ltb (length bytes) 28) a .0) b bytes mail (readOf bytes)))
+    (λ b. register-ok w (neither-left (badLent w) (ltb (length bytes) 28) a) b bytes mail (readOf bytes)))
   where
     f : CommandFound
     f = commandFound (w .hca .logs) bytes

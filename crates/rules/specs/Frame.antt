@@ -66,7 +66,7 @@ use Rattle.rules.specs.Collections.{Collected, collectFinished, collectO
 use Rattle.rules.specs.Resets.{Reset, resetOf}
 use Rattle.rules.specs.Calls.{Call, command, engineRequest, step, collection, resetting, Answer, submitted, stepped, collected, resetDone, answerOf, worldAfter, opFound as opAsked, registerFound, commandFound, isDone, isInit, initialises, startsAgain}
 use Rattle.rules.specs.System.{at}
-use Rattle.rules.specs.View.{lookAt, look-valid, Sized, lent-sized, lent-store, closed-free, open-possible, Runs, running, either-none}
+use Rattle.rules.specs.View.{lookAt, look-valid, lent-sized, closed-free, open-fits, Runs, running}
 use Rattle.rules.specs.Moved.{own-record, other-record}
 
 -- ---- a call is refused
@@ -275,19 +275,19 @@ module _ (w : World) (k : ℕ) (X : Record) (valid : isRecord (w .hca .logs) X �
 
       module-of : w .hca .«open» ≡ true → Dec (touched q ≡ X) → (b : Bool) → writesOf q ≡ b → Changed (moved w k q m)
       module-of o (no n) t f =
-          let r : Runs w q m = running w (open-possible w b o) k q m e in
-          kept (sym is ∙ other-record w (lent-sized w a) (omega (arith, open-possible w b o .within, lent-store w a o)) k q m e (r .valid) (r .more) X n ∙ was)
+          let r : Runs w q m = running w b o k q m e in
+          kept (sym is ∙ other-record w (lent-sized w a) (open-fits w a b o) k q m e (r .valid) (r .more) X n ∙ was)
       module-of o (yes y) true f =
-          let r : Runs w q m = running w (open-possible w b o) k q m e in
+          let r : Runs w q m = running w b o k q m e in
           burstMoved k q m refl e f y
           (sym is ∙ subst (λ (Y : Record). lookAt (moved w k q m) (at Y) ≡ burst (byteOf q (frontOf k q (w .room))) (getD (burstsOf q) m 0) (lookAt w (at Y))) y
-          (own-record w (lent-sized w a) (omega (arith, open-possible w b o .within, lent-store w a o)) k q m e (r .valid) (r .more)
+          (own-record w (lent-sized w a) (open-fits w a b o) k q m e (r .valid) (r .more)
           ∙ ap (λ (c : Bool). pick c (burst (byteOf q (frontOf k q (w .room))) (getD (burstsOf q) m 0) (lookAt w (at (touched q)))) (lookAt w (at (touched q)))) f)
           ∙ ap (burst (byteOf q (frontOf k q (w .room))) (getD (burstsOf q) m 0)) was)
       module-of o (yes y) false f =
-          let r : Runs w q m = running w (open-possible w b o) k q m e in
+          let r : Runs w q m = running w b o k q m e in
           kept (sym is ∙ subst (λ (Y : Record). lookAt (moved w k q m) (at Y) ≡ lookAt w (at Y)) y
-          (own-record w (lent-sized w a) (omega (arith, open-possible w b o .within, lent-store w a o)) k q m e (r .valid) (r .more)
+          (own-record w (lent-sized w a) (open-fits w a b o) k q m e (r .valid) (r .more)
           ∙ ap (λ (c : Bool). pick c (burst (byteOf q (frontOf k q (w .room))) (getD (burstsOf q) m 0) (lookAt w (at (touched q)))) (lookAt w (at (touched q)))) f)
           ∙ was)
 

@@ -25,7 +25,7 @@ use Rattle.rules.specs.World.{World, statusAt, badLent, badState}
 use Rattle.rules.specs.Admission.{Submitted}
 use Rattle.rules.specs.Commands.{initialised, asked, badSystem, busy, served, register, submitCommand}
 use Rattle.rules.specs.Calls.{opFound as opAsked, registerFound, commandFound, isDone, isInit, initialises}
-use Rattle.rules.specs.View.{closed-free, either-none}
+use Rattle.rules.specs.View.{closed-free}
 use Rattle.rules.specs.Found.{init-closed}
 
 pub record Started (w : World) : Type 0 where

@@ -5,24 +5,24 @@ use mathlib.Core.List.{List, [], _∷_}
 use Prim.Native.Nat.{ℕ, zero, suc, _+_, _*_, _≤_, _<_}
 use native.Mathlib.Decide.{decLt}
 use native.Mathlib.Omega.{arith}
-use borrow.Author.Tests.{ltb-true, ltb-false, eqb-true, leb-true, not-false}
+use borrow.Author.Tests.{ltb-false, eqb-true, leb-true, not-false}
 use lib.Dec.{eqb, ltb, leb}
 use lib.ListN.{length, getD, drop, set, List·getD-eq-default}
 use lib.Seq.{getD-set-other, getD-set-same}
-use Rattle.words.specs.Choice.{pick, both, either, both-left, both-right}
+use Rattle.words.specs.Choice.{pick, both-right}
 use Rattle.words.specs.Parts.{part, splice, length-part}
 use Rattle.context.specs.Layout.{isRecord, recordOf, recordAt, recordSize, inUse, rangesHold, fitsStore}
 use Rattle.context.specs.Records.{record-inside}
 use Rattle.context.specs.declared.Logs.{Logs}
 use Rattle.context.specs.declared.Record.{Record}
 use Rattle.requests.specs.declared.Request.{Request}
-use Rattle.tables.specs.Records.{recordOf as touched, psnHolds, numbersHold}
+use Rattle.tables.specs.Records.{recordOf as touched}
 use Rattle.tables.specs.Bursts.{burstsOf, totalOf}
 use Rattle.answers.specs.Answers.{answerOf}
 use Rattle.slots.specs.Slots.{slot}
-use Rattle.slots.specs.Rows.{anySlot, anyRest, isOccupied}
-use Rattle.slots.specs.Possible.{impossible, slotWrong, statusWrong, twoCommands, holdsClash}
-use Rattle.slots.specs.declared.Hca.{Hca}
+use Rattle.slots.specs.Neither.{neither-left, neither-right}
+use Rattle.states.specs.Laws.{closed-free as all-free, open-fits as fits, running-right, running-moved}
+use Rattle.states.specs.declared.Hca.{Hca}
 use Rattle.slots.specs.declared.Slot.{Slot}
 use Rattle.slots.specs.declared.Status.{Status}
 use Rattle.slots.specs.declared.Status.the-variants.{Free, Running, Finished}
@@ -52,22 +52,6 @@ pub record Fine (w u : World) (n : Noted system) : Type 0 where
   pub ended : List (Fin system)
   pub event : Event system (viewOf w) (viewOf u) n ended
 
--- ---- tests
-
-pub either-none : (p q : Bool) → either p q ≡ false → (p ≡ false) × (q ≡ false)
-either-none true q e = absurd (true≢false e)
-either-none false q e = (refl, e)
-
-pub not-no : (b : Bool) → not b ≡ false → b ≡ true
-not-no true e = refl
-not-no false e = absurd (true≢false e)
-
-first : (b x y : Bool) → b ≡ true → pick b x y ≡ false → x ≡ false
-first b x y t e = sym (ap (λ (c : Bool). pick c x y) t) ∙ e
-
-second : (b x y : Bool) → b ≡ false → pick b x y ≡ false → y ≡ false
-second b x y t e = sym (ap (λ (c : Bool). pick c x y) t) ∙ e
-
 -- ---- the lent memory
 
 pub record Sized (w : World) : Type 0 where
@@ -76,28 +60,18 @@ pub record Sized (w : World) : Type 0 where
 
 pub sized : (w : World) → badRow w ≡ false → Sized w
 unfolding badRow
-sized w e =
-    let t = either-none (not (eqb (length (w .row)) 8)) (ltb (length (w .room)) roomSize) e in
-    record { rowed = eqb-true _ _ (not-no _ (t .0)); roomed = ltb-false _ _ (t .1) }
+sized w e = record {
+  rowed = eqb-true _ _ (not-false _ (neither-left (not (eqb (length (w .row)) 8)) _ e));
+  roomed = ltb-false _ _ (neither-right (not (eqb (length (w .row)) 8)) _ e);
+}
 
 pub lent-sized : (w : World) → badLent w ≡ false → Sized w
 unfolding badLent
-lent-sized w e = sized w (either-none (badRow w) (badStore w) e .0)
+lent-sized w e = sized w (neither-left (badRow w) (badStore w) e)
 
 pub lent-store : (w : World) → badLent w ≡ false → w .hca .«open» ≡ true → length (w .store) ≡ w .hca .«store_len»
 unfolding badLent badStore
-lent-store w e o =
-    let t = either-none (badRow w) (badStore w) e .1 in
-    let u : both true (not (eqb (length (w .store)) (w .hca .«store_len»))) ≡ false = subst (λ (b : Bool). both b (not (eqb (length (w .store)) (w .hca .«store_len»))) ≡ false) o t in
-    eqb-true _ _ (not-no _ u)
-
--- ---- the slots
-
-pub any-at : (p : Slot → Bool) (row : List Slot) → anySlot p row ≡ false → p (slot Free) ≡ false → (k : ℕ) → p (getD row k (slot Free)) ≡ false
-unfolding anySlot
-any-at p [] e d k = d
-any-at p (s ∷ row) e d zero = either-none (p s) (anySlot p row) e .0
-any-at p (s ∷ row) e d (suc k) = any-at p row (either-none (p s) (anySlot p row) e .1) d k
+lent-store w e o = eqb-true _ _ (not-false _ (rw o at (neither-right (badRow w) (badStore w) e)))
 
 -- a slot past the row's end is free
 pub beyond : (w : World) → Sized w → (j : ℕ) → ¬ (j < 8) → getD (w .row) j (slot Free) ≡ slot Free
@@ -106,46 +80,23 @@ beyond w z j n = List·getD-eq-default (w .row) (slot Free) {n = j} (omega (arit
 -- ---- a possible world
 
 pub closed-free : (w : World) → badState w ≡ false → w .hca .«open» ≡ false → (k : ℕ) → statusAt k (w .row) ≡ Free
-unfolding badState impossible statusAt
-closed-free w e o k =
-    free-status (getD (w .row) k (slot Free) .status)
-    (any-at isOccupied (w .row) (second (w .hca .«open») _ _ o e) refl k)
-  where
-    free-status : (s : Status) → Rattle.slots.specs.Rows.occupiedStatus s ≡ false → s ≡ Free
-    free-status Free f = refl
-    free-status (Running q m) f = absurd (true≢false f)
-    free-status (Finished q m) f = absurd (true≢false f)
+unfolding badState statusAt
+closed-free w e o k = ap (λ (s : Slot). s .status) (all-free (w .hca) (w .row) o e k)
 
-pub record Possible (w : World) : Type 0 where
-  pub ranges : rangesHold (w .hca .logs) ≡ true
-  pub within : inUse (w .hca .logs) ≤ w .hca .«store_len»
-  pub slots : anySlot (slotWrong (w .hca .logs)) (w .row) ≡ false
-
-pub open-possible : (w : World) → badState w ≡ false → w .hca .«open» ≡ true → Possible w
-unfolding badState impossible fitsStore
-open-possible w e o =
-    let g = w .hca .logs in
-    let row = w .row in
-    let t = either-none _ (either (anySlot (slotWrong g) row) (either (twoCommands row) (holdsClash row))) (first (w .hca .«open») _ _ o e) in
-    let f : both (rangesHold g) (leb (inUse g) (w .hca .«store_len»)) ≡ true = not-no _ (t .0) in
-    record {
-      ranges = both-left (rangesHold g) _ f;
-      within = leb-true _ _ (both-right (rangesHold g) _ f);
-      slots = either-none (anySlot (slotWrong g) row) (either (twoCommands row) (holdsClash row)) (t .1) .0;
-    }
+-- the bytes in use lie in the store
+pub open-fits : (w : World) → badLent w ≡ false → badState w ≡ false → w .hca .«open» ≡ true → inUse (w .hca .logs) ≤ length (w .store)
+unfolding badState fitsStore
+open-fits w l e o =
+    omega (arith, leb-true (inUse (w .hca .logs)) (w .hca .«store_len») (both-right (rangesHold (w .hca .logs)) _ (fits (w .hca) (w .row) o e)), lent-store w l o)
 
 -- a running slot's record is a record of the store, and bursts are left
 pub record Runs (w : World) (q : Request) (m : ℕ) : Type 0 where
   pub valid : isRecord (w .hca .logs) (touched q) ≡ true
   pub more : m < totalOf q
 
-pub running : (w : World) → Possible w → (k : ℕ) (q : Request) (m : ℕ) → statusAt k (w .row) ≡ Running q m → Runs w q m
-unfolding statusAt numbersHold
-running w p k q m e =
-    let g = w .hca .logs in
-    let f : statusWrong g (Running q m) ≡ false = subst (λ (s : Status). statusWrong g s ≡ false) e (any-at (slotWrong g) (w .row) (p .slots) refl k) in
-    let t = either-none (not (both (isRecord g (touched q)) (psnHolds q))) (not (ltb m (totalOf q))) f in
-    record { valid = both-left _ _ (not-no _ (t .0)); more = ltb-true _ _ (not-no _ (t .1)) }
+pub running : (w : World) → badState w ≡ false → w .hca .«open» ≡ true → (k : ℕ) (q : Request) (m : ℕ) → statusAt k (w .row) ≡ Running q m → Runs w q m
+unfolding badState statusAt
+running w e o k q m f = record { valid = running-right (w .hca) (w .row) o e k q m f .valid; more = running-moved (w .hca) (w .row) o e k q m f }
 
 -- ---- what is looked at
 

@@ -10,8 +10,8 @@ use Rattle.context.specs.declared.Logs.{Logs}
 use Rattle.requests.specs.declared.Request.{Request}
 use Rattle.tables.specs.Mailboxes.{needOf}
 use Rattle.slots.specs.Slots.{slot}
-use Rattle.slots.specs.Possible.{impossible}
-use Rattle.slots.specs.declared.Hca.{Hca}
+use Rattle.states.specs.Possible.{impossible}
+use Rattle.states.specs.declared.Hca.{Hca}
 use Rattle.slots.specs.declared.Slot.{Slot}
 use Rattle.slots.specs.declared.Status.{Status}
 use Rattle.slots.specs.declared.Status.the-variants.{Free}
