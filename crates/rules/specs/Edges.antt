@@ -7,11 +7,12 @@ use mathlib.Core.Logic.{_⊎_, inl, inr}
 use Prim.Native.Nat.{ℕ, zero, suc, _+_, _*_, _/_, _≤_, _<_}
 use native.Mathlib.Decide.{decLt, ℕ-discrete}
 use native.Mathlib.Omega.{arith}
-use lib.Dec.{ltb}
+use lib.Dec.{ltb, lit<}
 use lib.ListN.{length, getD, set}
 use lib.Seq.{getD-set-same, getD-set-other, set-out}
 use Rattle.words.specs.Choice.{pick, by-pick}
 use Rattle.context.specs.Layout.{isRecord, recordOf, recordSize}
+use Rattle.context.specs.Records.{record?}
 use Rattle.context.specs.declared.Logs.{Logs}
 use Rattle.context.specs.declared.QpNumber.{QpNumber}
 use Rattle.context.specs.declared.Record.{Record}
@@ -23,16 +24,21 @@ use Rattle.edges.specs.declared.Move.the-variants as move
 use Rattle.edges.specs.declared.Verdict.{Verdict}
 use Rattle.edges.specs.declared.Verdict.the-variants.{Permitted, NotPermitted}
 use Rattle.requests.specs.declared.Command.the-variants as command
+use Rattle.requests.specs.declared.Owned.the-variants as owned
 use Rattle.requests.specs.declared.Engine.the-variants as engine
+use Rattle.requests.specs.declared.Psn.{Psn}
+use Rattle.requests.specs.declared.Psn.the-variants.{NextSend, LastAcked, Expected}
 use Rattle.requests.specs.declared.Request.{Request}
 use Rattle.requests.specs.declared.Request.the-variants as request
 use Rattle.tables.specs.Records.{recordOf as touched, writesOf}
-use Rattle.tables.specs.Bursts.{burstsOf, totalOf}
+use Rattle.tables.specs.Bursts.{burstsOf, totalOf, psnBursts, psnPlace, at-burst}
 use Rattle.effects.specs.Fields.{stateOf, serviceOf}
 use Rattle.effects.specs.Permission.{permissionOf}
 use Rattle.answers.specs.Answers.{answerSize}
 use Rattle.bursts.specs.Bytes.{byteOf}
 use Rattle.bursts.specs.Bursts.{burst, burst-in, burst-out}
+use Rattle.bursts.specs.Bursts.{fit-at}
+use Rattle.bursts.specs.Table.{bursts-room, total-bursts}
 use Rattle.bursts.specs.Effects.{Sets, state-first}
 use Rattle.slots.specs.Slots.{slot, advanced, advancedStatus, freed}
 use Rattle.slots.specs.declared.Slot.{Slot}
@@ -41,13 +47,17 @@ use Rattle.slots.specs.declared.Status.the-variants.{Free, Running, Finished}
 use Rattle.rules.specs.World.{World, frontOf, statusAt, badLent, badState, badRow}
 use Rattle.rules.specs.Admission.{Submitted, recordNow, taken}
 use Rattle.rules.specs.Commands.{initialised, closed, submitCommand}
-use Rattle.rules.specs.Steps.{Stepped, slotMoved, moved, stepOn, stepOf}
+use Rattle.rules.specs.Engines.{submitEngine}
+use Rattle.rules.specs.Steps.{Stepped, storeMoved, slotMoved, moved, stepOn, stepOf}
 use Rattle.rules.specs.Collections.{Collected, collectFinished, collectOn, collectOf}
 use Rattle.rules.specs.Resets.{Reset, resetOf}
-use Rattle.rules.specs.Calls.{Call, command, engineRequest, step, collection, resetting, worldAfter, answerOf, noteOf, commandFound, isDone, isInit, initialises, resetEnds, startsAgain}
+use Rattle.rules.specs.Calls.{Call, command as commanding, engineRequest, step, collection, resetting, worldAfter, answerOf, noteOf, commandFound, isDone, isInit, initialises, resetEnds, startsAgain}
 use Rattle.rules.specs.Demand3.{Entry, noted, Run, runFrom}
-use Rattle.rules.specs.View.{closed-free, Runs, running}
+use Rattle.rules.specs.View.{look-valid, lent-sized, closed-free, open-fits, Runs, running, in-row}
 use Rattle.rules.specs.Started.{Started, started}
+use Rattle.rules.specs.Moved.{other-record}
+use Rattle.rules.specs.System.{at}
+use Rattle.states.specs.Laws.{writer-alone}
 use Rattle.rules.specs.Frame.{command-is, engine-is, Change, kept, burstMoved, records-framed}
 use Rattle.rules.specs.Demand2.{Along, StateMove, stays, moves, Demand2, Statement}
 
@@ -99,3 +109,212 @@ judged-taken w q mail k i p j r s wr = go (slot-cases (w .row) k j (slot (Runnin
         let e : q ≡ r = cc in
         judged-store w (taken w q mail k) refl refl r (subst (λ (y : Request). permissionOf y (recordNow w y) ≡ Permitted) e p)
     go (inr x) = judged-store w (taken w q mail k) refl refl r (i j r (sym (x .0) ∙ s) wr)
+
+-- ---- every call keeps it
+
+judged-same : (w u : World) → u .hca .logs ≡ w .hca .logs → u .store ≡ w .store → u .row ≡ w .row → Judged w → Judged u
+unfolding Judged
+judged-same w u e f r i k q s wr = judged-store w u e f q (i k q (ap (statusAt k) (sym r) ∙ s) wr)
+
+command-judged : (w : World) (bytes mail : List ℕ) → initialises w bytes mail ≡ false → Judged w → Judged (submitCommand w bytes mail .world)
+unfolding initialises closed initialised
+command-judged w bytes mail =
+    command-is w (λ (s : Submitted). pick (isInit (commandFound (w .hca .logs) bytes)) (isDone (s .answer)) false ≡ false → Judged w → Judged (s .world))
+    (λ _ _ i. i) (λ q m k p _ i. judged-taken w q m k i p) (λ _ i. judged-same w (closed w) refl refl refl i) (λ _ i. i) bytes mail
+    (λ i g e _. absurd (contradicted (isInit (commandFound (w .hca .logs) bytes)) i e))
+  where
+    contradicted : (b : Bool) → b ≡ true → pick b true false ≡ false → ⊥
+    contradicted true i e = true≢false e
+    contradicted false i e = false≢true i
+
+engine-judged : (w : World) (n index psn code : ℕ) → Judged w → Judged (submitEngine w n index psn code .world)
+engine-judged w n index psn code =
+    engine-is w (λ (s : Submitted). Judged w → Judged (s .world)) (λ _ i. i) (λ q m k p i. judged-taken w q m k i p) n index psn code
+
+collect-on-judged : (w : World) (k : ℕ) (out : List ℕ) (s : Status) → Judged w → Judged (collectOn w k out s .world)
+unfolding collectOn collectFinished
+collect-on-judged w k out Free i = i
+collect-on-judged w k out (Running q m) i = i
+collect-on-judged w k out (Finished q m) i =
+    by-pick (λ (c : Collected). Judged (c .world)) (ltb (length out) (answerSize q)) _ _ (λ _. i) (λ _. judged-free w _ k i refl refl refl)
+
+collect-judged : (w : World) (k : ℕ) (out : List ℕ) → Judged w → Judged (collectOf w k out .world)
+unfolding collectOf
+collect-judged w k out i =
+    by-pick (λ (c : Collected). Judged (c .world)) (badLent w) _ _ (λ _. i)
+    (λ _. by-pick (λ (c : Collected). Judged (c .world)) (badState w) _ _ (λ _. i) (λ _. collect-on-judged w k out (statusAt k (w .row)) i))
+
+advanced-is : (row : List Slot) (k : ℕ) (s : Status) → statusAt k row ≡ s → advanced (getD row k (slot Free)) .status ≡ advancedStatus s
+unfolding statusAt
+advanced-is row k s e = ap advancedStatus e
+
+-- a burst of another request: what a request that has moved none is judged by stays
+module _ (w : World) (lent : badLent w ≡ false) (state : badState w ≡ false) (k : ℕ) (q : Request) (m : ℕ) (now : statusAt k (w .row) ≡ Running q m) where
+  opened : w .hca .«open» ≡ true
+  opened = go (w .hca .«open») refl
+    where
+      go : (b : Bool) → w .hca .«open» ≡ b → w .hca .«open» ≡ true
+      go true o = o
+      go false o =
+          let f : Running q m ≡ Free = sym now ∙ closed-free w state o k in
+          let z : _≡_ {A = ℕ} 0 1 = cc in absurd (omega arith)
+
+  -- no burst leaves a slot running with none moved
+  never-first : (r : Request) → advancedStatus (Running q m) ≡ Running r 0 → ⊥
+  never-first r = by-pick (λ (s : Status). s ≡ Running r 0 → ⊥) (ltb (m + 1) (totalOf q)) _ _
+      (λ _ e. let f : m + 1 ≡ 0 = cc in omega arith)
+      (λ _ e. let z : _≡_ {A = ℕ} 0 1 = cc in omega arith)
+
+  record-kept : (j : ℕ) (r : Request) → ¬ (j ≡ k) → statusAt j (w .row) ≡ Running r 0 → recordNow (moved w k q m) r ≡ recordNow w r
+  unfolding recordNow moved storeMoved badState statusAt
+  record-kept j r d s = go (record? (touched q) (touched r)) (writesOf q) refl
+    where
+      mine : Runs w q m
+      mine = running w state opened k q m now
+
+      other : isRecord (w .hca .logs) (touched r) ≡ true
+      other = running w state opened j r 0 s .valid
+
+      go : Dec (touched q ≡ touched r) → (b : Bool) → writesOf q ≡ b
+          → recordOf (w .hca .logs) (touched r) (moved w k q m .store) ≡ recordOf (w .hca .logs) (touched r) (w .store)
+      go (no n) b e =
+          sym (look-valid (moved w k q m) (touched r) other)
+          ∙ other-record w (lent-sized w lent) (open-fits w lent state opened) k q m now (mine .valid) (mine .more) (touched r) n
+          ∙ look-valid w (touched r) other
+      go (yes y) true e = absurd (writer-alone (w .hca) (w .row) opened state k j (λ f. d (sym f)) q m r 0 now s y e)
+      go (yes y) false e = rw e
+
+  burst-judged : Judged w → Judged (moved w k q m)
+  unfolding Judged moved slotMoved
+  burst-judged i j r s wr = go (slot-cases (w .row) k j (advanced (getD (w .row) k (slot Free))))
+    where
+      next : advanced (getD (w .row) k (slot Free)) .status ≡ advancedStatus (Running q m)
+      next = advanced-is (w .row) k (Running q m) now
+
+      occupied : ¬ (statusAt k (w .row) ≡ Free)
+      occupied f = let c : Running q m ≡ Free = sym now ∙ f in let z : _≡_ {A = ℕ} 0 1 = cc in omega arith
+
+      stays-judged : statusAt j (w .row) ≡ Running r 0 → ¬ (j ≡ k) → permissionOf r (recordNow (moved w k q m) r) ≡ Permitted
+      stays-judged f d = ap (permissionOf r) (record-kept j r d f) ∙ i j r f wr
+
+      go : (statusAt j (set (w .row) k (advanced (getD (w .row) k (slot Free)))) ≡ advanced (getD (w .row) k (slot Free)) .status)
+          ⊎ ((statusAt j (set (w .row) k (advanced (getD (w .row) k (slot Free)))) ≡ statusAt j (w .row)) × ((j ≡ k → ⊥) ⊎ (length (w .row) ≤ k)))
+          → permissionOf r (recordNow (moved w k q m) r) ≡ Permitted
+      go (inl x) = absurd (never-first r (sym next ∙ sym x ∙ s))
+      go (inr x) = apart (x .1)
+        where
+          apart : (j ≡ k → ⊥) ⊎ (length (w .row) ≤ k) → permissionOf r (recordNow (moved w k q m) r) ≡ Permitted
+          apart (inl d) = stays-judged (sym (x .0) ∙ s) d
+          apart (inr h) = absurd (omega (arith, in-row w (lent-sized w lent) k occupied, lent-sized w lent .rowed))
+
+step-on-judged : (w : World) → badLent w ≡ false → badState w ≡ false → (k : ℕ) (s : Status) → statusAt k (w .row) ≡ s → Judged w → Judged (stepOn w k s .world)
+unfolding stepOn
+step-on-judged w a b k Free e i = i
+step-on-judged w a b k (Running q m) e i = burst-judged w a b k q m e i
+step-on-judged w a b k (Finished q m) e i = i
+
+step-judged : (w : World) (k : ℕ) → Judged w → Judged (stepOf w k .world)
+unfolding stepOf
+step-judged w k i =
+    by-pick (λ (s : Stepped). Judged (s .world)) (badLent w) _ _ (λ _. i)
+    (λ a. by-pick (λ (s : Stepped). Judged (s .world)) (badState w) _ _ (λ _. i) (λ b. step-on-judged w a b k (statusAt k (w .row)) refl i))
+
+reset-judged : (w : World) → resetEnds (resetOf w .answer) ≡ false → Judged w → Judged (resetOf w .world)
+unfolding resetOf
+reset-judged w = by-pick (λ (r : Reset). resetEnds (r .answer) ≡ false → Judged w → Judged (r .world)) (badRow w) _ _ (λ _ _ i. i) (λ _ e. absurd (true≢false e))
+
+call-judged : (w : World) (c : Call) → startsAgain w c ≡ false → Judged w → Judged (worldAfter w c)
+call-judged w (commanding bytes mail) e i = command-judged w bytes mail e i
+call-judged w (engineRequest n index psn code) e i = engine-judged w n index psn code i
+call-judged w (step k) e i = step-judged w k i
+call-judged w (collection k out) e i = collect-judged w k out i
+call-judged w resetting e i = reset-judged w e i
+
+run-judged : (w : World) (J : List Entry) (cs : List Call) → Judged w → Judged (runFrom w J cs .world)
+run-judged w J [] i = i
+run-judged w J (c ∷ cs) i =
+    by-pick (λ (r : Run). Judged (r .world)) (startsAgain w c) _ _ (λ _. i)
+    (λ e. run-judged (worldAfter w c) (noted (noteOf (w .hca .logs) c (answerOf w c)) J) cs (call-judged w c e i))
+
+start-judged : (w : World) → Started w → Judged w
+unfolding Judged
+start-judged w s k q e wr = let f : Free ≡ Running q 0 = sym (s .freed k) ∙ e in let z : _≡_ {A = ℕ} 0 1 = cc in absurd (omega arith)
+
+-- ---- what a burst makes of the state
+
+permitted : (asked : Move) (code service : ℕ) → judgeOf asked code service ≡ Permitted → permits asked code service ≡ true
+unfolding judgeOf
+permitted asked code service = go (permits asked code service)
+  where
+    go : (b : Bool) → pick b Permitted NotPermitted ≡ Permitted → b ≡ true
+    go true e = refl
+    go false e = let z : _≡_ {A = ℕ} 0 1 = cc in absurd (omega arith)
+
+-- the first burst sets the state
+first-along : (q : Request) (n : QpNumber) (mail before : List ℕ) → 16 ≤ length before → touched q ≡ rec.Qp n → writesOf q ≡ true → permissionOf q before ≡ Permitted
+    → Along q (stateOf before) (serviceOf before) (stateOf (burst (byteOf q mail) (getD (burstsOf q) 0 0) before))
+unfolding stateOf
+first-along (request.Command (command.Sw2Hw (owned.Mpt x))) n mail before l y wr p = let z : _≡_ {A = ℕ} 0 1 = cc in absurd (omega arith)
+first-along (request.Command (command.Sw2Hw (owned.Eq x))) n mail before l y wr p = let z : _≡_ {A = ℕ} 0 1 = cc in absurd (omega arith)
+first-along (request.Command (command.Sw2Hw (owned.Cq x))) n mail before l y wr p = let z : _≡_ {A = ℕ} 0 1 = cc in absurd (omega arith)
+first-along (request.Command (command.Hw2Sw (owned.Mpt x))) n mail before l y wr p = let z : _≡_ {A = ℕ} 0 1 = cc in absurd (omega arith)
+first-along (request.Command (command.Hw2Sw (owned.Eq x))) n mail before l y wr p = let z : _≡_ {A = ℕ} 0 1 = cc in absurd (omega arith)
+first-along (request.Command (command.Hw2Sw (owned.Cq x))) n mail before l y wr p = let z : _≡_ {A = ℕ} 0 1 = cc in absurd (omega arith)
+first-along (request.Command (command.ResizeCq x)) n mail before l y wr p = let z : _≡_ {A = ℕ} 0 1 = cc in absurd (omega arith)
+first-along (request.Command (command.QueryQp x)) n mail before l y wr p = absurd (false≢true wr)
+first-along (request.Command (command.ModifyQp e x)) n mail before l y wr p =
+    (permitted (move.Command e) (stateOf before) (serviceOf before) p, state-first (request.Command (command.ModifyQp e x)) (toOf e) refl mail before l)
+first-along (request.Engine (engine.ReadState x)) n mail before l y wr p = absurd (false≢true wr)
+first-along (request.Engine (engine.ReadNext x)) n mail before l y wr p = absurd (false≢true wr)
+first-along (request.Engine (engine.ReadAll x)) n mail before l y wr p = absurd (false≢true wr)
+first-along (request.Engine (engine.Write f x psn s)) n mail before l y wr p =
+    (permitted (move.Engine s) (stateOf before) (serviceOf before) p, state-first (request.Engine (engine.Write f x psn s)) s refl mail before l)
+
+psn-later : (p : Psn) (m : ℕ) → m < 2 → 0 < m → 0 < getD (psnBursts p) m 0
+psn-later p m h k = let e : m ≡ 1 = omega arith in rw e (psn-place p)
+  where
+    psn-place : (p : Psn) → 0 < psnPlace p / 16
+    psn-place NextSend = lit< tt
+    psn-place LastAcked = lit< tt
+    psn-place Expected = lit< tt
+
+-- no other burst holds byte 0
+later : (q : Request) (m : ℕ) → m < totalOf q → 0 < m → 0 < getD (burstsOf q) m 0
+later (request.Command (command.Sw2Hw o)) m h p = omega (arith, at-burst 0 4 m h)
+later (request.Command (command.Hw2Sw o)) m h p = omega (arith, at-burst 0 4 m h)
+later (request.Command (command.ResizeCq n)) m h p = omega (arith, at-burst 0 4 m h)
+later (request.Command (command.QueryQp n)) m h p = omega (arith, at-burst 0 16 m h)
+later (request.Command (command.ModifyQp e n)) m h p = omega (arith, at-burst 0 16 m h)
+later (request.Engine (engine.ReadState n)) m h p = absurd (omega arith)
+later (request.Engine (engine.ReadNext n)) m h p = psn-later NextSend m h p
+later (request.Engine (engine.ReadAll n)) m h p = omega (arith, at-burst 0 16 m h)
+later (request.Engine (engine.Write f n psn s)) m h p = psn-later f m h p
+
+-- a burst of another place leaves the state
+later-stays : (q : Request) (mail before : List ℕ) (j : ℕ) → 16 * j + 16 ≤ length before → 0 < j → stateOf (burst (byteOf q mail) j before) ≡ stateOf before
+unfolding stateOf
+later-stays q mail before j l p = ap (λ (b : ℕ). b / 16) (burst-out (byteOf q mail) j before l 0 (λ i. omega (arith, i .0)))
+
+-- of any change of a queue pair's record
+state-moves : (w : World) (c : Call) (n : QpNumber) (before after : List ℕ) → Judged w → before ≡ recordOf (w .hca .logs) (rec.Qp n) (w .store)
+    → Change w c (rec.Qp n) before after → StateMove w c (rec.Qp n) (stateOf before) (serviceOf before) (stateOf after)
+unfolding Judged recordNow
+state-moves w c n before after i b (kept e) = stays (ap stateOf e)
+state-moves w c n before after i b (burstMoved k q zero e f h wr y l g) =
+    moves k q e f y
+    (subst (λ (r : List ℕ). Along q (stateOf before) (serviceOf before) (stateOf r)) (sym g)
+    (first-along q n (frontOf k q (w .room)) before (omega (arith, l)) y wr
+    (ap (permissionOf q) (b ∙ ap (λ (X : Record). recordOf (w .hca .logs) X (w .store)) (sym y)) ∙ i k q f wr)))
+state-moves w c n before after i b (burstMoved k q (suc m) e f h wr y l g) =
+    stays (ap stateOf g ∙ later-stays q (frontOf k q (w .room)) before (getD (burstsOf q) (suc m) 0) (omega (arith, l, inside)) (later q (suc m) h (omega arith)))
+  where
+    inside : 16 * getD (burstsOf q) (suc m) 0 + 16 ≤ 256
+    inside = fit-at 256 (burstsOf q) (suc m) (bursts-room q) (omega (arith, total-bursts q))
+
+-- DEMAND 2
+pub demand2 : Statement
+demand2 before bytes mail i calls last e n v =
+    let start : World = submitCommand before bytes mail .world in
+    let end : World = runFrom start [] calls .world in
+    state-moves end last n (recordOf (end .hca .logs) (rec.Qp n) (end .store)) (recordOf (end .hca .logs) (rec.Qp n) (worldAfter end last .store))
+    (run-judged start [] calls (start-judged start (started before bytes mail i))) refl (records-framed end last e (rec.Qp n) v)

@@ -12,7 +12,7 @@ use Rattle.hcr.specs.Register.{readOf}
 use Rattle.hcr.specs.declared.HcrCommand.{HcrCommand}
 use Rattle.hcr.specs.declared.ReadAnswer.{ReadAnswer}
 use Rattle.hcr.specs.declared.ReadAnswer.the-variants as hcr
-use Rattle.context.specs.Layout.{isRecord, recordOf}
+use Rattle.context.specs.Layout.{isRecord, recordOf, recordSize}
 use Rattle.context.specs.Records.{record?}
 use Rattle.context.specs.Init.{initOf}
 use Rattle.context.specs.declared.Init.{Init}
@@ -35,7 +35,7 @@ use Rattle.requests.specs.declared.Request.{Request}
 use Rattle.requests.specs.declared.Request.the-variants as request
 use Rattle.tables.specs.Records.{recordOf as touched, writesOf}
 use Rattle.tables.specs.Mailboxes.{needOf}
-use Rattle.tables.specs.Bursts.{burstsOf}
+use Rattle.tables.specs.Bursts.{burstsOf, totalOf}
 use Rattle.effects.specs.Permission.{permissionOf}
 use Rattle.effects.specs.Content.{contentHolds}
 use Rattle.answers.specs.Answers.{answerSize}
@@ -66,7 +66,7 @@ use Rattle.rules.specs.Collections.{Collected, collectFinished, collectO
 use Rattle.rules.specs.Resets.{Reset, resetOf}
 use Rattle.rules.specs.Calls.{Call, command, engineRequest, step, collection, resetting, Answer, submitted, stepped, collected, resetDone, answerOf, worldAfter, opFound as opAsked, registerFound, commandFound, isDone, isInit, initialises, startsAgain}
 use Rattle.rules.specs.System.{at}
-use Rattle.rules.specs.View.{lookAt, look-valid, lent-sized, closed-free, open-fits, Runs, running}
+use Rattle.rules.specs.View.{lookAt, look-valid, length-look, lent-sized, closed-free, open-fits, Runs, running}
 use Rattle.rules.specs.Moved.{own-record, other-record}
 
 -- ---- a call is refused
@@ -220,7 +220,8 @@ reset-leaves w = by-pick (λ (r : Reset). resetRefused (r .answer) ≡ true → 
 -- of it by the byte rule.
 pub data Change (w : World) (c : Call) (X : Record) (before after : List ℕ) : Type 0 where
   kept : after ≡ before → Change w c X before after
-  burstMoved : (k : ℕ) (q : Request) (m : ℕ) → c ≡ step k → statusAt k (w .row) ≡ Running q m → writesOf q ≡ true → touched q ≡ X
+  burstMoved : (k : ℕ) (q : Request) (m : ℕ) → c ≡ step k → statusAt k (w .row) ≡ Running q m → m < totalOf q → writesOf q ≡ true → touched q ≡ X
+      → length before ≡ recordSize X
       → after ≡ burst (byteOf q (frontOf k q (w .room))) (getD (burstsOf q) m 0) before → Change w c X before after
 
 -- submissions, but for an initialisation that answers 0, and collections leave the store
@@ -264,35 +265,36 @@ module _ (w : World) (k : ℕ) (X : Record) (valid : isRecord (w .hca .logs) X �
   unfolding Changed moved
   burst-changed a b q m e = go (w .hca .«open») refl
     where
-      after : List ℕ
-      after = recordOf (w .hca .logs) X (moved w k q m .store)
-
       was : lookAt w (at X) ≡ recordOf (w .hca .logs) X (w .store)
       was = look-valid w X valid
 
       is : lookAt (moved w k q m) (at X) ≡ recordOf (w .hca .logs) X (moved w k q m .store)
       is = look-valid (moved w k q m) X valid
 
-      module-of : w .hca .«open» ≡ true → Dec (touched q ≡ X) → (b : Bool) → writesOf q ≡ b → Changed (moved w k q m)
-      module-of o (no n) t f =
-          let r : Runs w q m = running w b o k q m e in
-          kept (sym is ∙ other-record w (lent-sized w a) (open-fits w a b o) k q m e (r .valid) (r .more) X n ∙ was)
-      module-of o (yes y) true f =
-          let r : Runs w q m = running w b o k q m e in
-          burstMoved k q m refl e f y
-          (sym is ∙ subst (λ (Y : Record). lookAt (moved w k q m) (at Y) ≡ burst (byteOf q (frontOf k q (w .room))) (getD (burstsOf q) m 0) (lookAt w (at Y))) y
-          (own-record w (lent-sized w a) (open-fits w a b o) k q m e (r .valid) (r .more)
-          ∙ ap (λ (c : Bool). pick c (burst (byteOf q (frontOf k q (w .room))) (getD (burstsOf q) m 0) (lookAt w (at (touched q)))) (lookAt w (at (touched q)))) f)
-          ∙ ap (burst (byteOf q (frontOf k q (w .room))) (getD (burstsOf q) m 0)) was)
-      module-of o (yes y) false f =
-          let r : Runs w q m = running w b o k q m e in
-          kept (sym is ∙ subst (λ (Y : Record). lookAt (moved w k q m) (at Y) ≡ lookAt w (at Y)) y
-          (own-record w (lent-sized w a) (open-fits w a b o) k q m e (r .valid) (r .more)
-          ∙ ap (λ (c : Bool). pick c (burst (byteOf q (frontOf k q (w .room))) (getD (burstsOf q) m 0) (lookAt w (at (touched q)))) (lookAt w (at (touched q)))) f)
-          ∙ was)
+      by-record : w .hca .«open» ≡ true → Dec (touched q ≡ X) → (t : Bool) → writesOf q ≡ t → Changed (moved w k q m)
+      by-record o d t f = here d t f
+        where
+          r : Runs w q m
+          r = running w b o k q m e
+
+          -- the request's own record
+          own : (t : Bool) → writesOf q ≡ t → touched q ≡ X
+              → recordOf (w .hca .logs) X (moved w k q m .store)
+              ≡ pick t (burst (byteOf q (frontOf k q (w .room))) (getD (burstsOf q) m 0) (recordOf (w .hca .logs) X (w .store))) (recordOf (w .hca .logs) X (w .store))
+          own t f y =
+              sym is
+              ∙ subst (λ (Y : Record). lookAt (moved w k q m) (at Y) ≡ pick (writesOf q) (burst (byteOf q (frontOf k q (w .room))) (getD (burstsOf q) m 0) (lookAt w (at Y))) (lookAt w (at Y))) y
+              (own-record w (lent-sized w a) (open-fits w a b o) k q m e (r .valid) (r .more))
+              ∙ ap (λ (l : List ℕ). pick (writesOf q) (burst (byteOf q (frontOf k q (w .room))) (getD (burstsOf q) m 0) l) l) was
+              ∙ ap (λ (c : Bool). pick c (burst (byteOf q (frontOf k q (w .room))) (getD (burstsOf q) m 0) (recordOf (w .hca .logs) X (w .store))) (recordOf (w .hca .logs) X (w .store))) f
+
+          here : Dec (touched q ≡ X) → (t : Bool) → writesOf q ≡ t → Changed (moved w k q m)
+          here (no n) t f = kept (sym is ∙ other-record w (lent-sized w a) (open-fits w a b o) k q m e (r .valid) (r .more) X n ∙ was)
+          here (yes y) true f = burstMoved k q m refl e (r .more) f y (ap length (sym was) ∙ length-look w (open-fits w a b o) X valid) (own true f y)
+          here (yes y) false f = kept (own false f y)
 
       go : (c : Bool) → w .hca .«open» ≡ c → Changed (moved w k q m)
-      go true o = module-of o (record? (touched q) X) (writesOf q) refl
+      go true o = by-record o (record? (touched q) X) (writesOf q) refl
       go false o =
           let f : Running q m ≡ Free = sym e ∙ closed-free w b o k in
           let z : _≡_ {A = ℕ} 0 1 = cc in absurd (omega arith)
