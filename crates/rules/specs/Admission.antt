@@ -1,5 +1,5 @@
 -- The end of both submissions, from the mailbox's length to the slot: the last six rows of the table of refusals.
-use mathlib.Core.Bool.{Bool, true, false, not}
+use mathlib.Core.Bool.{not}
 use mathlib.Core.List.{List}
 use Prim.Native.Nat.{ℕ, _*_}
 use lib.Dec.{ltb}

@@ -1,13 +1,11 @@
 -- Document 01, "The plain book of demand 3".
-use mathlib.Core.Bool.{Bool, true, false}
+use mathlib.Core.Bool.{Bool, false}
 use mathlib.Core.List.{List, []}
 use Prim.Native.Nat.{ℕ, zero, suc}
 use Rattle.words.specs.Choice.{pick}
 use Rattle.context.specs.Layout.{sameRecord}
 use Rattle.context.specs.declared.Record.{Record}
 use Rattle.edges.specs.Edges.{verdictNumber}
-use Rattle.edges.specs.declared.Verdict.{Verdict}
-use Rattle.edges.specs.declared.Verdict.the-variants.{Permitted, NotPermitted}
 use Rattle.requests.specs.declared.Request.{Request}
 use Rattle.tables.specs.Records.{recordOf, writesOf}
 use Rattle.effects.specs.Permission.{permissionOf}

@@ -23,7 +23,6 @@ use Rattle.requests.specs.declared.NumberFound.the-variants as number
 use Rattle.requests.specs.declared.Request.{Request}
 use Rattle.requests.specs.declared.Request.the-variants as request
 use Rattle.tables.specs.Mailboxes.{needOf}
-use Rattle.rules.specs.declared.Refusal.{Refusal}
 use Rattle.rules.specs.declared.SubmitAnswer.{SubmitAnswer}
 use Rattle.rules.specs.declared.SubmitAnswer.the-variants as submit
 use Rattle.rules.specs.declared.StepAnswer.{StepAnswer}
@@ -33,12 +32,11 @@ use Rattle.rules.specs.declared.ResetAnswer.{ResetAnswer}
 use Rattle.rules.specs.declared.ResetAnswer.the-variants as reset
 use Rattle.rules.specs.Numbers.{refusalNumber, forState}
 use Rattle.rules.specs.World.{World}
-use Rattle.rules.specs.Admission.{Submitted}
 use Rattle.rules.specs.Commands.{submitCommand}
 use Rattle.rules.specs.Engines.{submitEngine}
-use Rattle.rules.specs.Steps.{Stepped, stepOf}
+use Rattle.rules.specs.Steps.{stepOf}
 use Rattle.rules.specs.Collections.{Collected, collectOf}
-use Rattle.rules.specs.Resets.{Reset, resetOf}
+use Rattle.rules.specs.Resets.{resetOf}
 use Rattle.rules.specs.Book.{Fed, onRecord, closeHca, nop}
 
 -- a call, with its own input: an HCR and a mailbox; an engine request's number, index, PSN and state; a slot; a slot and a

@@ -1,5 +1,4 @@
 -- A collection: the answer of a finished slot's request, and the slot freed.
-use mathlib.Core.Bool.{Bool}
 use mathlib.Core.List.{List}
 use Prim.Native.Nat.{ℕ}
 use lib.Dec.{ltb}

@@ -4,39 +4,28 @@
 -- initialisation or reset that answers 0: the state code of every queue pair stays, or the call is the first step of a running
 -- request on that queue pair, and the state moves along an edge that is permitted, from the state code and for the service type that
 -- the record has just before the step, for that request.
-use mathlib.Core.Path.{_≡_, refl, sym, _∙_, ap, subst}
-use mathlib.Core.Bool.{Bool, true, false, not, true≢false, false≢true}
-use mathlib.Core.List.{List, [], _∷_}
-use mathlib.Core.Logic.{_⊎_, inl, inr}
-use Prim.Native.Nat.{ℕ, zero, suc, _+_, _*_, _/_, _≤_, _<_}
-use native.Mathlib.Decide.{decLt, ℕ-discrete}
-use native.Mathlib.Omega.{arith}
-use lib.Dec.{ltb}
-use lib.ListN.{length, getD, set}
-use lib.Seq.{getD-set-same, getD-set-other, set-out}
-use Rattle.words.specs.Choice.{pick, by-pick}
+use mathlib.Core.Path.{_≡_}
+use mathlib.Core.Bool.{true, false}
+use mathlib.Core.List.{List, []}
+use Prim.Native.Nat.{ℕ}
 use Rattle.context.specs.Layout.{isRecord, recordOf}
 use Rattle.context.specs.declared.QpNumber.{QpNumber}
 use Rattle.context.specs.declared.Record.{Record}
 use Rattle.context.specs.declared.Record.the-variants as rec
 use Rattle.edges.specs.States.{stateCode}
-use Rattle.edges.specs.Edges.{toOf, permits, judgeOf}
+use Rattle.edges.specs.Edges.{toOf, permits}
 use Rattle.edges.specs.declared.Move.the-variants as move
-use Rattle.edges.specs.declared.Verdict.{Verdict}
-use Rattle.edges.specs.declared.Verdict.the-variants.{Permitted, NotPermitted}
 use Rattle.requests.specs.declared.Command.the-variants as command
 use Rattle.requests.specs.declared.Engine.the-variants as engine
 use Rattle.requests.specs.declared.Request.{Request}
 use Rattle.requests.specs.declared.Request.the-variants as request
-use Rattle.tables.specs.Records.{recordOf as touched, writesOf}
+use Rattle.tables.specs.Records.{recordOf as touched}
 use Rattle.effects.specs.Fields.{stateOf, serviceOf}
-use Rattle.effects.specs.Permission.{permissionOf}
-use Rattle.slots.specs.declared.Status.{Status}
-use Rattle.slots.specs.declared.Status.the-variants.{Free, Running, Finished}
+use Rattle.slots.specs.declared.Status.the-variants.{Running}
 use Rattle.rules.specs.World.{World, statusAt}
 use Rattle.rules.specs.Commands.{submitCommand}
 use Rattle.rules.specs.Calls.{Call, step, worldAfter, startsAgain, initialises}
-use Rattle.rules.specs.Demand3.{Run, runFrom}
+use Rattle.rules.specs.Demand3.{runFrom}
 
 -- a request moves a queue pair's state from this code, for this service type, to the next code along an edge that is permitted for it
 abbrev pub Along : Request → ℕ → ℕ → ℕ → Type 0

@@ -9,15 +9,13 @@
 --
 -- What is not claimed: that a request is ever finished, or which calls are accepted: that is what the rules say, call by call.
 use mathlib.Core.Path.{_≡_}
-use mathlib.Core.Bool.{Bool, true, false}
+use mathlib.Core.Bool.{true}
 use mathlib.Core.List.{List, [], _∷_, _++_}
 use Prim.Native.Nat.{ℕ}
 use lib.Dec.{eqb}
-use lib.ListN.{getD}
 use Rattle.words.specs.Choice.{pick}
 use Rattle.context.specs.Layout.{isRecord, recordOf}
 use Rattle.context.specs.declared.Record.{Record}
-use Rattle.requests.specs.declared.Request.{Request}
 use Rattle.tables.specs.Records.{recordOf as touched, writesOf}
 use Rattle.slots.specs.declared.Status.{Status}
 use Rattle.slots.specs.declared.Status.the-variants.{Free, Running, Finished}

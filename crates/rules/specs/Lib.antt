@@ -1,4 +1,6 @@
 -- The rules of document 01 as definitions on values and lists, and the demands as theorems about them.
+--
+-- The rules, in the order of document 01; each definition stands under the sentence that it states.
 pub mod Numbers
 pub mod World
 pub mod Admission
@@ -7,23 +9,14 @@ pub mod Engines
 pub mod Steps
 pub mod Collections
 pub mod Resets
+-- The plain book.
 pub mod Whole
 pub mod Book
+-- What is claimed of them.
 pub mod Calls
-pub mod Demand3
-pub mod System
-pub mod Shown
-pub mod View
-pub mod AgreeMaps
-pub mod AgreeEdges
-pub mod Agree
-pub mod AgreeState
-pub mod Admitted
-pub mod Moved
-pub mod Found
-pub mod Events
-pub mod Started
-pub mod Serial
-pub mod Frame
 pub mod Demand2
-pub mod Edges
+pub mod Demand3
+pub mod Frames
+pub mod Theorems
+-- How it is proved.
+pub mod Proofs

@@ -6,7 +6,6 @@ use lib.ListN.{getD, replicate}
 use Rattle.words.specs.Parts.{part, splice}
 use Rattle.words.specs.Words.{beBytes}
 use Rattle.edges.specs.States.{stateCode}
-use Rattle.edges.specs.Edges.{toOf}
 use Rattle.edges.specs.declared.State.{State}
 use Rattle.edges.specs.declared.State.the-variants.{Init, Rtr, Rts, Sqd, Err}
 use Rattle.edges.specs.declared.Edge.{Edge}

@@ -1,10 +1,10 @@
 -- All that a call remembers and is lent, and the first rows of the table of refusals.
-use mathlib.Core.Bool.{Bool, true, false, not}
+use mathlib.Core.Bool.{Bool, not}
 use mathlib.Core.List.{List}
 use Prim.Native.Nat.{ℕ, _*_}
 use lib.Dec.{eqb, ltb}
-use lib.ListN.{length, getD, replicate}
-use Rattle.words.specs.Choice.{pick, both, either}
+use lib.ListN.{length, getD}
+use Rattle.words.specs.Choice.{both, either}
 use Rattle.words.specs.Parts.{part}
 use Rattle.context.specs.declared.Logs.{Logs}
 use Rattle.requests.specs.declared.Request.{Request}
@@ -15,7 +15,6 @@ use Rattle.states.specs.declared.Hca.{Hca}
 use Rattle.slots.specs.declared.Slot.{Slot}
 use Rattle.slots.specs.declared.Status.{Status}
 use Rattle.slots.specs.declared.Status.the-variants.{Free}
-use Rattle.rules.specs.declared.Refusal.{Refusal}
 
 -- what is handed in and handed back, and what is lent
 pub record World : Type 0 where

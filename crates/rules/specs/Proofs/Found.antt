@@ -1,20 +1,18 @@
 -- A command or engine request that was found has a record of the store.
-use mathlib.Core.Path.{_≡_, refl, sym, _∙_, ap, subst}
+use mathlib.Core.Path.{_≡_, refl, subst}
 use mathlib.Core.Bool.{Bool, true, false, not}
 use Prim.Native.Nat.{ℕ, _^_}
 use native.Mathlib.Omega.{arith}
 use lib.Dec.{eqb, ltb}
-use Rattle.words.specs.Choice.{pick, by-pick}
+use Rattle.words.specs.Choice.{by-pick}
 use Rattle.context.specs.Layout.{isRecord}
-use Rattle.context.specs.Numbers.{qpOf, cqOf, eqOf, mptOf}
 use Rattle.context.specs.declared.Logs.{Logs}
 use Rattle.context.specs.declared.QpFound.{QpFound}
 use Rattle.context.specs.declared.CqFound.{CqFound}
 use Rattle.context.specs.declared.EqFound.{EqFound}
 use Rattle.context.specs.declared.MptFound.{MptFound}
-use Rattle.edges.specs.declared.Edge.{Edge}
-use Rattle.requests.specs.Commands.{opModifierOf, onMpt, onEq, onCq, ownedOf, sw2hwOf, hw2swOf, resizeOf, queryOf, modifyOf, atOnce, addressed, commandOf}
-use Rattle.requests.specs.Engines.{stateFrom, withState, engineWriteOf, engineOn, engineAt, engineOf}
+use Rattle.requests.specs.Commands.{opModifierOf, onMpt, onEq, onCq, sw2hwOf, hw2swOf, resizeOf, queryOf, modifyOf, addressed, commandOf}
+use Rattle.requests.specs.Engines.{stateFrom, withState, engineOn, engineAt, engineOf}
 use Rattle.requests.specs.declared.Command.{Command}
 use Rattle.requests.specs.declared.CommandFound.{CommandFound}
 use Rattle.requests.specs.declared.CommandFound.the-variants as found
@@ -26,11 +24,9 @@ use Rattle.requests.specs.declared.EngineNumber.{EngineNumber}
 use Rattle.requests.specs.declared.EngineNumber.the-variants as number
 use Rattle.requests.specs.declared.Op.{Op}
 use Rattle.requests.specs.declared.Op.the-variants as op
-use Rattle.requests.specs.declared.OwnedFound.{OwnedFound}
 use Rattle.requests.specs.declared.Psn.{Psn}
 use Rattle.requests.specs.declared.StateFound.{StateFound}
 use Rattle.requests.specs.declared.StateFound.the-variants as stateFound
-use Rattle.requests.specs.declared.Table.{Table}
 use Rattle.requests.specs.declared.Table.the-variants as table
 use Rattle.tables.specs.Records.{commandRecord, engineRecord}
 use Rattle.rules.specs.Commands.{badSystem, isClose}

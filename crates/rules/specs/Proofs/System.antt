@@ -1,6 +1,6 @@
 -- The plain book as a system of `serial`: what each request sees, holds and writes, its verdict, answer and effect, and what it is
 -- to be under way.
-use mathlib.Core.Path.{_≡_, refl, sym, _∙_, ap, ap₂, subst, subst₂}
+use mathlib.Core.Path.{_≡_, refl, ap, ap₂, subst₂}
 use mathlib.Core.Bool.{Bool, true, false}
 use mathlib.Core.List.{List, [], _∷_}
 use Prim.Native.Nat.{ℕ}

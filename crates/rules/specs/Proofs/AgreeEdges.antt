@@ -18,7 +18,7 @@ use Rattle.tables.specs.Mailboxes.{edgeNeed}
 use Rattle.bursts.specs.Taken.{takes, wordOf, zeroes}
 use Rattle.bursts.specs.Bytes.{withState, takenByte, edgeByte}
 use Rattle.rules.specs.Whole.{takeWords, setState, edgeEffect}
-use Rattle.rules.specs.AgreeMaps.{map-cong, map-map, map-same, replicate-map, splice-map, copy-map, within-yes, within-no, beyond, within-one, pick-either, either-assoc}
+use Rattle.rules.specs.Proofs.AgreeMaps.{map-cong, map-map, map-same, replicate-map, splice-map, copy-map, within-yes, within-no, beyond, within-one, pick-either, either-assoc}
 
 state-map : (s : State) (r : List ℕ) → 1 ≤ length r → setState s r ≡ mapFrom (withState s) 0 r
 unfolding setState withState

@@ -1,20 +1,18 @@
 -- A submission that comes to the admission is an event: refused, refused because of the record's state, or accepted.
-use mathlib.Core.Path.{_≡_, refl, sym, _∙_, ap, ap₂, subst}
-use mathlib.Core.Bool.{Bool, true, false, not, true≢false, false≢true}
-use mathlib.Core.List.{List, [], _∷_}
+use mathlib.Core.Path.{_≡_, refl, sym, _∙_, ap, subst}
+use mathlib.Core.Bool.{Bool, true, false, not, true≢false}
+use mathlib.Core.List.{List, []}
 use mathlib.Core.Logic.{_⊎_, inl, inr}
-use Prim.Native.Nat.{ℕ, zero, suc, _+_, _*_, _≤_, _<_}
+use Prim.Native.Nat.{ℕ, _+_, _*_, _≤_, _<_}
 use native.Mathlib.Decide.{decLt}
 use native.Mathlib.Omega.{arith}
-use borrow.Author.Tests.{ltb-false, not-false}
+use borrow.Author.Tests.{ltb-false}
 use lib.Dec.{T, ltb}
-use lib.ListN.{length, getD, set}
+use lib.ListN.{length}
 use lib.Seq.{getD-set-same}
-use Rattle.words.specs.Choice.{pick, both, either, by-pick}
+use Rattle.words.specs.Choice.{by-pick}
 use Rattle.words.specs.Parts.{part, splice, length-part, length-splice, splice-apart, part-splice}
-use Rattle.context.specs.Layout.{isRecord, recordOf, recordSize, inUse, sameRecord}
-use Rattle.context.specs.Records.{record-same}
-use Rattle.context.specs.declared.Record.{Record}
+use Rattle.context.specs.Layout.{isRecord, recordSize, inUse}
 use Rattle.edges.specs.Edges.{verdictNumber}
 use Rattle.edges.specs.declared.Verdict.{Verdict}
 use Rattle.edges.specs.declared.Verdict.the-variants.{Permitted, NotPermitted}
@@ -22,18 +20,17 @@ use Rattle.requests.specs.declared.Command.the-variants as command
 use Rattle.requests.specs.declared.Engine.the-variants as engine
 use Rattle.requests.specs.declared.Request.{Request}
 use Rattle.requests.specs.declared.Request.the-variants as request
-use Rattle.tables.specs.Records.{recordOf as touched, recordsOf, writesOf}
+use Rattle.tables.specs.Records.{recordOf as touched, writesOf}
 use Rattle.tables.specs.Mailboxes.{needOf}
 use Rattle.tables.specs.Bursts.{burstsOf}
 use Rattle.effects.specs.Permission.{permissionOf}
 use Rattle.effects.specs.Content.{contentHolds}
-use Rattle.answers.specs.Answers.{answerOf}
 use Rattle.answers.specs.Laws.{answer-agrees}
 use Rattle.bursts.specs.Bursts.{Fit}
 use Rattle.bursts.specs.Copies.{copies, length-copies, copies-in}
 use Rattle.bursts.specs.Table.{bursts-fit, bursts-room, need-small}
 use Rattle.bursts.specs.Effects.{writes-whole}
-use Rattle.slots.specs.Slots.{slot, accepted}
+use Rattle.slots.specs.Slots.{slot}
 use Rattle.slots.specs.Rows.{lowestFree}
 use Rattle.slots.specs.Holds.{clashPair, heldAgainst}
 use Rattle.slots.specs.Laws.{held-none, no-writer, Lowest, lowest-free-is}
@@ -44,16 +41,14 @@ use Rattle.slots.specs.declared.Status.{Status}
 use Rattle.slots.specs.declared.Status.the-variants.{Free, Running, Finished}
 use Rattle.serial.specs.Core.{Passes}
 use Rattle.serial.specs.Slots.{Note as Noted, nothing as none, turned, taken as took, at-once, collected, runs, PassesAll, idle, turn, take}
-use Rattle.rules.specs.declared.Refusal.the-variants as cause
 use Rattle.rules.specs.declared.SubmitAnswer.the-variants as submit
 use Rattle.rules.specs.World.{World, slotRoom, roomOf, frontOf, statusAt}
-use Rattle.rules.specs.Admission.{Submitted, submitted, refused, recordNow, taken, placed, judged, admit}
-use Rattle.rules.specs.Whole.{wholeEffect}
+use Rattle.rules.specs.Admission.{Submitted, submitted, recordNow, taken, placed, judged, admit}
 use Rattle.rules.specs.Book.{Fed, onRecord}
-use Rattle.rules.specs.Calls.{Note, nothing, refused as refusedNote, accepted as acceptedNote, finished, emptied, fed, requestNote}
-use Rattle.rules.specs.Agree.{whole-bytes}
-use Rattle.rules.specs.System.{Place, gate, at, gateBytes, gatedBy, Sees, Writes, num, Left, left, MidOf, system}
-use Rattle.rules.specs.View.{lookAt, slotView, slotAt, viewOf, Fine, Sized, look-valid, look-same, length-look, others}
+use Rattle.rules.specs.Calls.{Note, nothing, refused as refusedNote, accepted as acceptedNote, finished, emptied, requestNote}
+use Rattle.rules.specs.Proofs.Agree.{whole-bytes}
+use Rattle.rules.specs.Proofs.System.{Place, gate, at, gateBytes, gatedBy, Sees, Writes, num, Left, left, MidOf, system}
+use Rattle.rules.specs.Proofs.View.{lookAt, slotView, viewOf, Fine, Sized, look-valid, look-same, length-look, others}
 
 -- the note of a call, for the journal of `serial`
 abbrev pub noteFor : Note → Noted system

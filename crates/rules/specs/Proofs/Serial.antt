@@ -1,25 +1,20 @@
 -- DEMAND 3 is proved: every call is an event (Events), so `serial` gives the claim for the system's book, and the plain book is the
 -- same book (Shown). What is left here is that the journal of Demand3 is the journal of `serial`, entry by entry.
 use mathlib.Core.Path.{_≡_, refl, sym, _∙_, ap, ap₂, subst}
-use mathlib.Core.Bool.{Bool, true, false, true≢false, false≢true}
-use mathlib.Core.List.{List, [], _∷_, _++_, map}
-use Prim.Native.Nat.{ℕ, zero, suc, _≤_, _<_}
+use mathlib.Core.Bool.{Bool, true, false}
+use mathlib.Core.List.{List, [], _∷_, _++_}
+use Prim.Native.Nat.{ℕ}
 use native.Mathlib.Decide.{ℕ-discrete}
-use native.Mathlib.Omega.{arith}
 use borrow.Author.Tests.{eq-eqb, ne-eqb}
 use lib.Dec.{T, eqb}
-use lib.ListN.{length, getD}
 use Rattle.words.specs.Choice.{pick, by-pick}
-use Rattle.context.specs.Layout.{isRecord, recordOf}
 use Rattle.context.specs.declared.Record.{Record}
-use Rattle.requests.specs.declared.Request.{Request}
-use Rattle.tables.specs.Records.{recordOf as touched, writesOf}
-use Rattle.tables.specs.Bursts.{burstsOf}
+use Rattle.tables.specs.Records.{writesOf}
 use Rattle.slots.specs.declared.Status.{Status}
 use Rattle.slots.specs.declared.Status.the-variants.{Free, Running, Finished}
 use Rattle.serial.specs.Core.{Inv, Quiet}
 use Rattle.serial.specs.Order.{Done as Fin, finished as finishedJ}
-use Rattle.serial.specs.Slots.{Item, off, gone, inside, settle-one, settle, log, entry, stands, Keeps, free}
+use Rattle.serial.specs.Slots.{Item, off, gone, inside, settle-one, settle, log, entry, stands, Keeps}
 use Rattle.serial.specs.Items.{stands-append}
 use Rattle.serial.specs.Next.{next, begin}
 use Rattle.serial.specs.Plain.{given as givenPlain, Demand, demand}
@@ -27,14 +22,14 @@ use Rattle.rules.specs.World.{World, statusAt}
 use Rattle.rules.specs.Commands.{submitCommand}
 use Rattle.rules.specs.Collections.{answerAt}
 use Rattle.rules.specs.Book.{Book, Fed, onRecord, closeHca, nop, numberOf, replyOf, afterOf}
-use Rattle.rules.specs.Calls.{Call, Note, nothing, refused, accepted, finished, emptied, answerOf, worldAfter, noteOf, startsAgain, initialises}
+use Rattle.rules.specs.Calls.{Call, Note, nothing, refused, accepted, finished, emptied, answerOf, worldAfter, noteOf, startsAgain}
 use Rattle.rules.specs.Demand3.{Entry, turnedAway, answered, inSlot, collectedFrom, noted, Run, runFrom, Done, done, inSlotDone, finishedIn, Writing, NotWriting, Unwritten, given, bookOf, Demand3, Statement}
-use Rattle.rules.specs.System.{Place, gate, at, gateBytes, Writes, system}
-use Rattle.rules.specs.Shown.{shows, plain}
-use Rattle.rules.specs.View.{lookAt, slotView, slotAt, viewOf, Fine, look-valid}
-use Rattle.rules.specs.Admitted.{noteFor}
-use Rattle.rules.specs.Events.{call-ok}
-use Rattle.rules.specs.Started.{Started, started}
+use Rattle.rules.specs.Proofs.System.{Place, gate, at, gateBytes, Writes, system}
+use Rattle.rules.specs.Proofs.Shown.{shows, plain}
+use Rattle.rules.specs.Proofs.View.{lookAt, slotView, slotAt, viewOf, look-valid}
+use Rattle.rules.specs.Proofs.Admitted.{noteFor}
+use Rattle.rules.specs.Proofs.Events.{call-ok}
+use Rattle.rules.specs.Proofs.Started.{Started, started}
 
 -- ---- the two journals
 

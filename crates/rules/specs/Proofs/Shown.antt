@@ -1,22 +1,20 @@
 -- The plain book is a plain book of the system: the same numbers, answers and effects over the same records.
-use mathlib.Core.Path.{_≡_, refl, sym, _∙_, ap, ap₂, subst}
+use mathlib.Core.Path.{_≡_, refl, sym, _∙_, ap, subst}
 use mathlib.Core.Bool.{Bool, true, false, false≢true}
-use mathlib.Core.List.{List, [], _∷_}
-use Prim.Native.Nat.{ℕ, zero, suc}
+use mathlib.Core.List.{List}
+use Prim.Native.Nat.{ℕ}
 use lib.Dec.{T}
 use Rattle.words.specs.Choice.{pick}
 use Rattle.context.specs.Layout.{sameRecord}
 use Rattle.context.specs.Records.{same-record, record-same}
-use Rattle.context.specs.declared.Record.{Record}
 use Rattle.edges.specs.Edges.{verdictNumber}
-use Rattle.requests.specs.declared.Request.{Request}
 use Rattle.tables.specs.Records.{recordOf, writesOf}
 use Rattle.effects.specs.Permission.{permissionOf}
 use Rattle.answers.specs.Answers.{answerOf}
 use Rattle.serial.specs.Plain.{Plain}
 use Rattle.rules.specs.Whole.{wholeEffect}
 use Rattle.rules.specs.Book.{Book, Fed, onRecord, closeHca, nop, withRecord, gated, numberOf, replyOf, afterRecord, effectOf, byNumber, afterOf}
-use Rattle.rules.specs.System.{Place, gate, at, choose, choose-yes, gateBytes, gatedBy, Writes, writes?, num, ans, eff, eff-frame, system}
+use Rattle.rules.specs.Proofs.System.{Place, gate, at, choose-yes, gateBytes, gatedBy, Writes, writes?, num, ans, eff, eff-frame, system}
 
 abbrev pub shows : Book → Place → List ℕ
 shows b gate = gateBytes (b .opened)

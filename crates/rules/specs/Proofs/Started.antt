@@ -1,6 +1,6 @@
 -- What an initialisation leaves: the adapter is open, and no slot is occupied.
-use mathlib.Core.Path.{_≡_, refl, sym, _∙_, ap, subst}
-use mathlib.Core.Bool.{Bool, true, false, not, true≢false, false≢true}
+use mathlib.Core.Path.{_≡_, refl}
+use mathlib.Core.Bool.{Bool, true, false, false≢true}
 use mathlib.Core.List.{List}
 use Prim.Native.Nat.{ℕ}
 use lib.Dec.{ltb}
@@ -13,7 +13,6 @@ use Rattle.hcr.specs.declared.ReadAnswer.the-variants as hcr
 use Rattle.context.specs.Init.{initOf}
 use Rattle.context.specs.declared.Init.{Init}
 use Rattle.context.specs.declared.Init.the-variants as init
-use Rattle.context.specs.declared.Logs.{Logs}
 use Rattle.requests.specs.Commands.{opOf, commandOf}
 use Rattle.requests.specs.declared.CommandFound.{CommandFound}
 use Rattle.requests.specs.declared.CommandFound.the-variants as found
@@ -25,8 +24,8 @@ use Rattle.rules.specs.World.{World, statusAt, badLent, badState}
 use Rattle.rules.specs.Admission.{Submitted}
 use Rattle.rules.specs.Commands.{initialised, asked, badSystem, busy, served, register, submitCommand}
 use Rattle.rules.specs.Calls.{opFound as opAsked, registerFound, commandFound, isDone, isInit, initialises}
-use Rattle.rules.specs.View.{closed-free}
-use Rattle.rules.specs.Found.{init-closed}
+use Rattle.rules.specs.Proofs.View.{closed-free}
+use Rattle.rules.specs.Proofs.Found.{init-closed}
 
 pub record Started (w : World) : Type 0 where
   pub opened : w .hca .«open» ≡ true

@@ -27,8 +27,8 @@ use Rattle.effects.specs.Fields.{stateOf}
 use Rattle.tables.specs.Bursts.{psnPlace}
 use Rattle.bursts.specs.Taken.{zeroes}
 use Rattle.bursts.specs.Bytes.{withState, takenByte, edgeByte, psnByte, writeByte, byteOf}
-use Rattle.rules.specs.AgreeMaps.{map-same}
-use Rattle.rules.specs.Agree.{owned-size}
+use Rattle.rules.specs.Proofs.AgreeMaps.{map-same}
+use Rattle.rules.specs.Proofs.Agree.{owned-size}
 
 -- the state code after a request on a queue pair, from the code before: an edge and an engine write set it, a read leaves it;
 -- the other requests are not on queue pairs

@@ -1,16 +1,15 @@
 -- A step is an event: one burst of a writer or of a reader, the last or not.
 use mathlib.Core.Path.{_≡_, refl, sym, _∙_, ap, ap₂, subst}
-use mathlib.Core.Bool.{Bool, true, false, true≢false, false≢true}
+use mathlib.Core.Bool.{Bool, true, false, false≢true}
 use mathlib.Core.List.{List, [], _∷_}
 use mathlib.Core.Logic.{_⊎_, inl, inr}
-use Prim.Native.Nat.{ℕ, zero, suc, _+_, _*_, _≤_, _<_}
-use native.Mathlib.Nat.{add-assoc}
+use Prim.Native.Nat.{ℕ, suc, _+_, _*_, _≤_, _<_}
 use native.Mathlib.Numerals.{add-one}
 use native.Mathlib.Decide.{decLt}
 use native.Mathlib.Omega.{arith}
 use borrow.Author.Tests.{ltb-true, ltb-false}
 use lib.Dec.{T, ltb}
-use lib.ListN.{length, getD, drop, set, drop-of-length-le}
+use lib.ListN.{length, getD, drop, drop-of-length-le}
 use lib.Seq.{getD-set-same, drop-cons}
 use Rattle.words.specs.Choice.{pick, by-pick}
 use Rattle.words.specs.Parts.{part}
@@ -28,10 +27,10 @@ use Rattle.tables.specs.Bursts.{burstsOf, totalOf, offsetOf}
 use Rattle.answers.specs.Answers.{answerOf}
 use Rattle.bursts.specs.Bytes.{byteOf}
 use Rattle.bursts.specs.Moves.{writeAt, copyAt}
-use Rattle.bursts.specs.Bursts.{after, burst, after-next}
-use Rattle.bursts.specs.Copies.{copies, copy, copies-next}
+use Rattle.bursts.specs.Bursts.{after, burst}
+use Rattle.bursts.specs.Copies.{copies, copy}
 use Rattle.bursts.specs.Table.{total-bursts, offset-burst, offset-small, offset-room, need-small, need-reader}
-use Rattle.bursts.specs.Store.{length-writeAt, writeAt-apart, writeAt-record, length-copyAt, copyAt-apart, copyAt-record}
+use Rattle.bursts.specs.Store.{writeAt-apart, writeAt-record, copyAt-apart, copyAt-record}
 use Rattle.slots.specs.Slots.{slot, advanced, advancedStatus}
 use Rattle.slots.specs.declared.Slot.{Slot}
 use Rattle.slots.specs.declared.Status.{Status}
@@ -40,9 +39,9 @@ use Rattle.serial.specs.Slots.{nothing, runs, ended, step, last}
 use Rattle.rules.specs.World.{World, slotRoom, roomOf, frontOf, statusAt}
 use Rattle.rules.specs.Steps.{burstAt, storeMoved, roomMoved, slotMoved, moved}
 use Rattle.rules.specs.Whole.{wholeEffect}
-use Rattle.rules.specs.Book.{Fed, onRecord}
-use Rattle.rules.specs.System.{Place, gate, at, choose-yes, Writes, writes?, ans, eff, Left, left, MidOf, Mid, system}
-use Rattle.rules.specs.View.{lookAt, slotView, slotAt, viewOf, Fine, Sized, look-valid, others, in-row}
+use Rattle.rules.specs.Book.{onRecord}
+use Rattle.rules.specs.Proofs.System.{Place, gate, at, choose-yes, Writes, writes?, eff, left, MidOf}
+use Rattle.rules.specs.Proofs.View.{lookAt, slotView, slotAt, Fine, Sized, look-valid, others, in-row}
 
 no-free : (q : Request) (m : ℕ) (s : Status) → s ≡ Running q m → ¬ (s ≡ Free)
 no-free q m s e f = let z : _≡_ {A = ℕ} 0 1 = cc in omega arith

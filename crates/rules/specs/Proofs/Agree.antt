@@ -29,8 +29,8 @@ use Rattle.tables.specs.Mailboxes.{storedOf, needOf}
 use Rattle.tables.specs.Bursts.{psnPlace}
 use Rattle.bursts.specs.Bytes.{sw2hwByte, resizeByte, psnByte, writeByte, byteOf}
 use Rattle.rules.specs.Whole.{ownedEffect, resizeEffect, setPsn, psnEffect, wholeEffect}
-use Rattle.rules.specs.AgreeMaps.{made-map, map-cong, map-map, map-same, replicate-map, splice-map, copy-map, within-yes, within-no, beyond}
-use Rattle.rules.specs.AgreeEdges.{state-over, edge-bytes}
+use Rattle.rules.specs.Proofs.AgreeMaps.{made-map, map-cong, map-map, map-same, replicate-map, splice-map, copy-map, within-yes, within-no, beyond}
+use Rattle.rules.specs.Proofs.AgreeEdges.{state-over, edge-bytes}
 
 -- n bytes of the mailbox, zeroes up to byte 63, and there the owner
 owned-map : (n k : ℕ) (mail r : List ℕ) → n ≤ length mail → n + k ≡ 63 → length r ≡ 64

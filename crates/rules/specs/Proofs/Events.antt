@@ -1,11 +1,11 @@
 -- Every call but an initialisation or a reset that answers 0 is an event.
-use mathlib.Core.Path.{_≡_, refl, sym, _∙_, ap, ap₂, subst}
+use mathlib.Core.Path.{_≡_, refl, sym, _∙_, ap, subst}
 use mathlib.Core.Bool.{Bool, true, false, not, true≢false, false≢true}
-use mathlib.Core.List.{List, [], _∷_}
-use Prim.Native.Nat.{ℕ, _+_, _*_, _≤_, _<_}
+use mathlib.Core.List.{List, []}
+use Prim.Native.Nat.{ℕ, _*_, _≤_, _<_}
 use native.Mathlib.Omega.{arith}
-use borrow.Author.Tests.{ltb-true, ltb-false, not-false}
-use lib.Dec.{T, ltb}
+use borrow.Author.Tests.{ltb-false, not-false}
+use lib.Dec.{ltb}
 use lib.ListN.{length, getD, set, take}
 use lib.Seq.{getD-set-same}
 use Rattle.words.specs.Choice.{pick, both, either, by-pick}
@@ -14,11 +14,10 @@ use Rattle.hcr.specs.Register.{readOf}
 use Rattle.hcr.specs.declared.HcrCommand.{HcrCommand}
 use Rattle.hcr.specs.declared.ReadAnswer.{ReadAnswer}
 use Rattle.hcr.specs.declared.ReadAnswer.the-variants as hcr
-use Rattle.context.specs.Layout.{isRecord, inUse}
+use Rattle.context.specs.Layout.{inUse}
 use Rattle.context.specs.Init.{initOf}
 use Rattle.context.specs.declared.Init.{Init}
 use Rattle.context.specs.declared.Init.the-variants as init
-use Rattle.context.specs.declared.Logs.{Logs}
 use Rattle.requests.specs.Commands.{opOf, commandOf}
 use Rattle.requests.specs.Engines.{numberOf, engineOf}
 use Rattle.requests.specs.declared.Command.{Command}
@@ -31,13 +30,11 @@ use Rattle.requests.specs.declared.EngineNumber.{EngineNumber}
 use Rattle.requests.specs.declared.NumberFound.{NumberFound}
 use Rattle.requests.specs.declared.NumberFound.the-variants as number
 use Rattle.requests.specs.declared.Op.{Op}
-use Rattle.requests.specs.declared.Op.the-variants as op
 use Rattle.requests.specs.declared.OpFound.{OpFound}
 use Rattle.requests.specs.declared.OpFound.the-variants as opFound
 use Rattle.requests.specs.declared.Request.{Request}
 use Rattle.requests.specs.declared.Request.the-variants as request
-use Rattle.tables.specs.Records.{recordOf as touched}
-use Rattle.answers.specs.Answers.{answerOf as answers, answerSize}
+use Rattle.answers.specs.Answers.{answerSize}
 use Rattle.answers.specs.Laws.{length-answer}
 use Rattle.slots.specs.Slots.{slot, freed as freedSlot}
 use Rattle.slots.specs.Neither.{neither-left, neither-right}
@@ -46,28 +43,26 @@ use Rattle.slots.specs.Rows.{anySlot, isOccupied, hasCommand, occupiedStatus}
 use Rattle.slots.specs.declared.Slot.{Slot}
 use Rattle.slots.specs.declared.Status.{Status}
 use Rattle.slots.specs.declared.Status.the-variants.{Free, Running, Finished}
-use Rattle.serial.specs.Core.{Passes}
 use Rattle.serial.specs.Slots.{nothing as none, at-once, collected, runs, ended, once, collect as collecting}
 use Rattle.rules.specs.declared.Refusal.{Refusal}
 use Rattle.rules.specs.declared.Refusal.the-variants as cause
 use Rattle.rules.specs.declared.CollectAnswer.the-variants as collect
-use Rattle.rules.specs.declared.SubmitAnswer.{SubmitAnswer}
 use Rattle.rules.specs.declared.SubmitAnswer.the-variants as submit
 use Rattle.rules.specs.Numbers.{forState}
 use Rattle.rules.specs.World.{World, world, slotRoom, roomOf, frontOf, statusAt, badLent, badState, badRow}
-use Rattle.rules.specs.Admission.{Submitted, submitted, refused, admit}
+use Rattle.rules.specs.Admission.{Submitted, refused}
 use Rattle.rules.specs.Commands.{initialised, closed, asked, badSystem, isClose, busy, served, register, submitCommand}
 use Rattle.rules.specs.Engines.{engineAsked, engineServed, submitEngine}
 use Rattle.rules.specs.Steps.{Stepped, stepOn, stepOf}
 use Rattle.rules.specs.Collections.{Collected, answerAt, collectFinished, collectOn, collectOf}
 use Rattle.rules.specs.Resets.{Reset, resetOf}
 use Rattle.rules.specs.Book.{Fed, onRecord, closeHca, nop}
-use Rattle.rules.specs.Calls.{Note, nothing, Call, command, engineRequest, step, collection, resetting, answerOf, worldAfter, opFound as opAsked, registerFound, commandFound, numberFound, engineFound, requestNote, onceNote, commandNote, engineNote, collectNote, noteOf, isDone, isInit, initialises, resetEnds, startsAgain}
-use Rattle.rules.specs.System.{Place, gate, at, gateBytes, gatedBy, Sees, Writes, num, eff, Left, left, system}
-use Rattle.rules.specs.View.{lookAt, slotView, slotAt, viewOf, Fine, Sized, lent-sized, closed-free, open-fits, Runs, running, look-same, others, in-row}
-use Rattle.rules.specs.Admitted.{noteFor, stays, Seen, seen-runs, admit-ok}
-use Rattle.rules.specs.Moved.{moved-ok}
-use Rattle.rules.specs.Found.{command-valid, record-open, close-open, close-op, engine-valid}
+use Rattle.rules.specs.Calls.{Call, command, engineRequest, step, collection, resetting, answerOf, worldAfter, opFound as opAsked, registerFound, commandFound, numberFound, engineFound, commandNote, engineNote, collectNote, noteOf, isDone, isInit, initialises, resetEnds, startsAgain}
+use Rattle.rules.specs.Proofs.System.{Place, gate, at, gateBytes, gatedBy, Sees, Writes, eff, Left}
+use Rattle.rules.specs.Proofs.View.{lookAt, slotView, slotAt, Fine, Sized, lent-sized, closed-free, open-fits, Runs, running, look-same, others, in-row}
+use Rattle.rules.specs.Proofs.Admitted.{noteFor, stays, Seen, seen-runs, admit-ok}
+use Rattle.rules.specs.Proofs.Moved.{moved-ok}
+use Rattle.rules.specs.Proofs.Found.{command-valid, record-open, close-open, close-op, engine-valid}
 
 -- a refusal that is not because of the record's state is not noted
 quiet : (mail : List ℕ) (f : CommandFound) (c : Refusal) → forState c ≡ false → none ≡ noteFor (commandNote mail f (submit.Refused c))

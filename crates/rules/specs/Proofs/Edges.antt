@@ -1,7 +1,7 @@
 -- DEMAND 2 is proved. A request is judged when it is accepted; from then until its first burst its record is held, so what the record
 -- permitted then it permits still (`Judged`).
 use mathlib.Core.Path.{_≡_, refl, sym, _∙_, ap, subst}
-use mathlib.Core.Bool.{Bool, true, false, not, true≢false, false≢true}
+use mathlib.Core.Bool.{Bool, true, false, true≢false, false≢true}
 use mathlib.Core.List.{List, [], _∷_}
 use mathlib.Core.Logic.{_⊎_, inl, inr}
 use Prim.Native.Nat.{ℕ, zero, suc, _+_, _*_, _/_, _≤_, _<_}
@@ -11,17 +11,15 @@ use lib.Dec.{ltb, lit<}
 use lib.ListN.{length, getD, set}
 use lib.Seq.{getD-set-same, getD-set-other, set-out}
 use Rattle.words.specs.Choice.{pick, by-pick}
-use Rattle.context.specs.Layout.{isRecord, recordOf, recordSize}
+use Rattle.context.specs.Layout.{isRecord, recordOf}
 use Rattle.context.specs.Records.{record?}
 use Rattle.context.specs.declared.Logs.{Logs}
 use Rattle.context.specs.declared.QpNumber.{QpNumber}
 use Rattle.context.specs.declared.Record.{Record}
 use Rattle.context.specs.declared.Record.the-variants as rec
-use Rattle.edges.specs.States.{stateCode}
 use Rattle.edges.specs.Edges.{toOf, permits, judgeOf}
 use Rattle.edges.specs.declared.Move.{Move}
 use Rattle.edges.specs.declared.Move.the-variants as move
-use Rattle.edges.specs.declared.Verdict.{Verdict}
 use Rattle.edges.specs.declared.Verdict.the-variants.{Permitted, NotPermitted}
 use Rattle.requests.specs.declared.Command.the-variants as command
 use Rattle.requests.specs.declared.Owned.the-variants as owned
@@ -36,10 +34,10 @@ use Rattle.effects.specs.Fields.{stateOf, serviceOf}
 use Rattle.effects.specs.Permission.{permissionOf}
 use Rattle.answers.specs.Answers.{answerSize}
 use Rattle.bursts.specs.Bytes.{byteOf}
-use Rattle.bursts.specs.Bursts.{burst, burst-in, burst-out}
+use Rattle.bursts.specs.Bursts.{burst, burst-out}
 use Rattle.bursts.specs.Bursts.{fit-at}
 use Rattle.bursts.specs.Table.{bursts-room, total-bursts}
-use Rattle.bursts.specs.Effects.{Sets, state-first}
+use Rattle.bursts.specs.Effects.{state-first}
 use Rattle.slots.specs.Slots.{slot, advanced, advancedStatus, freed}
 use Rattle.slots.specs.declared.Slot.{Slot}
 use Rattle.slots.specs.declared.Status.{Status}
@@ -53,13 +51,14 @@ use Rattle.rules.specs.Collections.{Collected, collectFinished, collectO
 use Rattle.rules.specs.Resets.{Reset, resetOf}
 use Rattle.rules.specs.Calls.{Call, command as commanding, engineRequest, step, collection, resetting, worldAfter, answerOf, noteOf, commandFound, isDone, isInit, initialises, resetEnds, startsAgain}
 use Rattle.rules.specs.Demand3.{Entry, noted, Run, runFrom}
-use Rattle.rules.specs.View.{look-valid, lent-sized, closed-free, open-fits, Runs, running, in-row}
-use Rattle.rules.specs.Started.{Started, started}
-use Rattle.rules.specs.Moved.{other-record}
-use Rattle.rules.specs.System.{at}
+use Rattle.rules.specs.Proofs.View.{look-valid, lent-sized, closed-free, open-fits, Runs, running, in-row}
+use Rattle.rules.specs.Proofs.Started.{Started, started}
+use Rattle.rules.specs.Proofs.Moved.{other-record}
 use Rattle.states.specs.Laws.{writer-alone}
-use Rattle.rules.specs.Frame.{command-is, engine-is, Change, kept, burstMoved, records-framed}
-use Rattle.rules.specs.Demand2.{Along, StateMove, stays, moves, Demand2, Statement}
+use Rattle.rules.specs.Frames.{Change, kept, burstMoved}
+use Rattle.rules.specs.Proofs.Submissions.{command-is, engine-is}
+use Rattle.rules.specs.Proofs.Frame.{records-framed}
+use Rattle.rules.specs.Demand2.{Along, StateMove, stays, moves, Statement}
 
 -- every running writer that has moved no burst is permitted by its record as it stands
 Judged : World → Type 0

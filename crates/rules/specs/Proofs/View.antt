@@ -1,19 +1,18 @@
 -- What demand 3 looks at in a world, and what a world that passed the first rows of the table of refusals is like.
-use mathlib.Core.Path.{_≡_, refl, sym, _∙_, ap, ap₂, subst}
-use mathlib.Core.Bool.{Bool, true, false, not, false≢true, true≢false}
-use mathlib.Core.List.{List, [], _∷_}
-use Prim.Native.Nat.{ℕ, zero, suc, _+_, _*_, _≤_, _<_}
+use mathlib.Core.Path.{_≡_, refl, _∙_, ap, ap₂}
+use mathlib.Core.Bool.{Bool, true, false, not}
+use mathlib.Core.List.{List, []}
+use Prim.Native.Nat.{ℕ, _≤_, _<_}
 use native.Mathlib.Decide.{decLt}
 use native.Mathlib.Omega.{arith}
 use borrow.Author.Tests.{ltb-false, eqb-true, leb-true, not-false}
-use lib.Dec.{eqb, ltb, leb}
+use lib.Dec.{eqb}
 use lib.ListN.{length, getD, drop, set, List·getD-eq-default}
-use lib.Seq.{getD-set-other, getD-set-same}
+use lib.Seq.{getD-set-other}
 use Rattle.words.specs.Choice.{pick, both-right}
-use Rattle.words.specs.Parts.{part, splice, length-part}
+use Rattle.words.specs.Parts.{length-part}
 use Rattle.context.specs.Layout.{isRecord, recordOf, recordAt, recordSize, inUse, rangesHold, fitsStore}
 use Rattle.context.specs.Records.{record-inside}
-use Rattle.context.specs.declared.Logs.{Logs}
 use Rattle.context.specs.declared.Record.{Record}
 use Rattle.requests.specs.declared.Request.{Request}
 use Rattle.tables.specs.Records.{recordOf as touched}
@@ -28,9 +27,9 @@ use Rattle.slots.specs.declared.Status.{Status}
 use Rattle.slots.specs.declared.Status.the-variants.{Free, Running, Finished}
 use Rattle.serial.specs.Slots.{Slot as Shown, free, runs, ended, View, Note as Noted, Event}
 use Rattle.serial.specs.Order.{Done as Fin}
-use Rattle.rules.specs.World.{World, slotRoom, roomSize, roomOf, frontOf, statusAt, badRow, badStore, badLent, badState}
-use Rattle.rules.specs.Book.{Fed, onRecord}
-use Rattle.rules.specs.System.{Place, gate, at, gateBytes, Left, left, system}
+use Rattle.rules.specs.World.{World, roomOf, frontOf, statusAt, badRow, badStore, badLent, badState}
+use Rattle.rules.specs.Book.{onRecord}
+use Rattle.rules.specs.Proofs.System.{Place, gate, at, gateBytes, left, system}
 
 abbrev pub lookAt : World → Place → List ℕ
 lookAt w gate = gateBytes (w .hca .«open»)

@@ -1,0 +1,24 @@
+-- THE THEOREMS about the rules. They assume nothing.
+use Rattle.rules.specs.Frames.{Refusals, Records}
+use Rattle.rules.specs.Demand2.{Statement as States}
+use Rattle.rules.specs.Demand3.{Statement as Serial}
+use Rattle.rules.specs.Proofs.Frame as frame
+use Rattle.rules.specs.Proofs.Edges as edges
+use Rattle.rules.specs.Proofs.Serial as serial
+
+-- a refusal changes nothing
+pub refusals : Refusals
+refusals = frame.refusals
+
+-- a request changes its own record, burst by burst, and no other
+pub records : Records
+records = frame.records-framed
+
+-- a queue pair's state moves only along permitted edges
+pub demand2 : States
+demand2 = edges.demand2
+
+-- the finished requests, given to the plain book in the order of acceptance, are all accepted; records, answers and refusals are the
+-- book's
+pub demand3 : Serial
+demand3 = serial.demand3
