@@ -5,8 +5,8 @@ ghost use mathlib.Core.Path.{_≡_};
 ghost use Prim.Native.Nat.{_-_, _≤_};
 ghost use lib.ListN.{drop};
 ghost use Rattle.tables.specs.Bursts.{totalOf};
-ghost use Rattle.slots.specs.Slots.{slot, accepted, freed, advancedStatus, advanced, leftStatus, leftOf, emptyRow};
-ghost use Rattle.slots.specs.Rows.{anySlot, occupiedStatus, isOccupied, commandStatus, hasCommand, lowestFree};
+ghost use Rattle.slots.specs.Slots.{accepted, freed, advancedStatus, advanced, leftStatus, leftOf, emptyRow};
+ghost use Rattle.slots.specs.Rows.{anySlot, isOccupied, hasCommand, lowestFree};
 ghost use Rattle.slots.specs.Holds.{clashPair, heldAgainst};
 
 // A slot is free, running with its request, or finished with its request; the number is that of the
@@ -21,6 +21,7 @@ pub struct Slot {
     pub status: Status,
 }
 
+// The number of the lowest free slot, if one is free.
 pub enum Found {
     At(usize),
     Nothing,
@@ -55,6 +56,7 @@ impl Status {
         }
     }
 
+    // The burst table's total less the bursts moved.
     pub fn bursts_left(self) -> u8
         ensures { λ r. ⌜ r ≡ leftStatus self ⌝ }
     {
@@ -64,29 +66,10 @@ impl Status {
             Status::Finished(request, moved) => left(request, moved),
         }
     }
-
-    fn is_occupied(self) -> bool
-        ensures { λ r. ⌜ r ≡ occupiedStatus self ⌝ }
-    {
-        match self {
-            Status::Free => false,
-            Status::Running(_, _) => true,
-            Status::Finished(_, _) => true,
-        }
-    }
-
-    fn has_command(self) -> bool
-        ensures { λ r. ⌜ r ≡ commandStatus self ⌝ }
-    {
-        match self {
-            Status::Free => false,
-            Status::Running(request, _) => tables::is_command(request),
-            Status::Finished(request, _) => tables::is_command(request),
-        }
-    }
 }
 
 impl Slot {
+    // A request that is accepted runs, with no burst moved.
     pub fn accept(self, request: Request) -> Slot
         ensures { λ r. ⌜ r ≡ accepted self request ⌝ }
     {
@@ -124,7 +107,11 @@ pub fn is_occupied(slot: Slot) -> bool
     ensures { λ r. ⌜ r ≡ isOccupied slot ⌝ }
 {
     let status = slot.status;
-    status.is_occupied()
+    match status {
+        Status::Free => false,
+        Status::Running(_, _) => true,
+        Status::Finished(_, _) => true,
+    }
 }
 
 // Whether a slot has an uncollected command, running or finished.
@@ -132,7 +119,11 @@ pub fn has_command(slot: Slot) -> bool
     ensures { λ r. ⌜ r ≡ hasCommand slot ⌝ }
 {
     let status = slot.status;
-    status.has_command()
+    match status {
+        Status::Free => false,
+        Status::Running(request, _) => tables::is_command(request),
+        Status::Finished(request, _) => tables::is_command(request),
+    }
 }
 
 pub fn empty_row() -> [Slot; 8]
