@@ -1,12 +1,12 @@
-# `make demo` runs the model's main job; `make test` runs all tests, the same as the gate.
-.PHONY: demo test
+# `make demo` runs the model's main job on what there is; `make test` runs all tests, the same as the gate.
+.PHONY: demo test kit
+
 demo: kit
-	rt check ground
-	@cat crates/ground/stdout
+	@rt check examples
+	@cat crates/examples/stdout
 
 test: kit
-	bash .ci/run
+	@bash .ci/run
 
-.PHONY: kit
 kit:
-	@command -v rt >/dev/null || { echo "rt is missing: install the Rattle kit and put its rt on PATH" >&2; exit 1; }
+	@command -v rt >/dev/null || { echo "rt is missing: install the Rattle kit and put its rt on the PATH" >&2; exit 1; }
