@@ -5,9 +5,8 @@ use mathlib.Core.Logic.{inl, inr}
 use Prim.Native.Nat.{ℕ, zero, suc, _+_, _*_, _/_, _%_, _≤_, _<_}
 use native.Mathlib.Decide.{decLt}
 use native.Mathlib.Omega.{arith}
-use lib.ListN.{length, getD, set}
-use lib.Seq.{ext-getD}
-use Rattle.words.specs.Parts.{part, splice, length-part, getD-part, part-part}
+use lib.ListN.{length, getD}
+use Rattle.words.specs.Parts.{part-agrees, part, length-part, part-part}
 use Rattle.words.specs.Words.{bits, AreBytes, be32, beBytes}
 use Rattle.words.specs.Leaves.{le-four, part-four, be32-is}
 use Rattle.requests.specs.declared.Command.{Command}
@@ -20,26 +19,6 @@ use Rattle.tables.specs.Bursts.{burstSize, burstsFrom, commandBursts, engineBur
 use Rattle.effects.specs.Fields.{stateOf}
 use Rattle.tables.specs.Touched.{Touched}
 use Rattle.answers.specs.Answers.{stateAnswer, nextAnswer, wholeAnswer, commandAnswer, engineAnswer, answerOf, commandAnswerSize, engineAnswerSize, answerSize}
-
--- an answer of no bytes leaves the output
-pub splice-none : (l : List ℕ) → splice 0 [] l ≡ l
-unfolding splice
-splice-none l = refl
-
--- a first byte stored and the others copied behind it
-pub splice-first : (x : ℕ) (ys l : List ℕ) → 1 ≤ length l → splice 1 ys (set l 0 x) ≡ splice 0 (x ∷ ys) l
-unfolding splice
-splice-first x ys [] h = absurd (omega arith)
-splice-first x ys (y ∷ l) h =
-    let e : 1 + length ys ≡ suc (length ys) = omega arith in
-    let f : 0 + suc (length ys) ≡ suc (length ys) = omega arith in
-    rw (e, f)
-
--- a single byte stored
-pub splice-one : (x : ℕ) (l : List ℕ) → 1 ≤ length l → set l 0 x ≡ splice 0 (x ∷ []) l
-unfolding splice
-splice-one x [] h = absurd (omega arith)
-splice-one x (y ∷ l) h = refl
 
 length-command : (c : Command) (p : List ℕ) → 256 ≤ length p → length (commandAnswer c p) ≡ commandAnswerSize c
 unfolding wholeAnswer
@@ -81,12 +60,6 @@ psn-bytes at p a h =
 -- p and c agree at every byte that lies in one of the bursts
 abbrev pub AgreeOn : List ℕ → List ℕ → List ℕ → Type 0
 AgreeOn js p c = (i : ℕ) → Touched i js → getD p i 0 ≡ getD c i 0
-
--- two lists that agree from at to at + n have the same part there
-part-agrees : (at n : ℕ) (p c : List ℕ) → at + n ≤ length p → at + n ≤ length c → ((i : ℕ) → i < n → getD p (at + i) 0 ≡ getD c (at + i) 0) → part at n p ≡ part at n c
-part-agrees at n p c h k a =
-    ext-getD 0 (part at n p) (part at n c) (length-part at n p h ∙ sym (length-part at n c k))
-    (λ i j. let j′ : i < n = omega (arith, length-part at n p h) in getD-part at n p i j′ ∙ a i j′ ∙ sym (getD-part at n c i j′))
 
 -- every byte of the n bursts from the s-th on lies in one of them
 in-bursts : (s n i : ℕ) → burstSize * s ≤ i → i < burstSize * (s + n) → Touched i (burstsFrom s n)

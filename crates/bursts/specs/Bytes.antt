@@ -1,5 +1,4 @@
 -- The byte rule: the new byte i of a record, from the request, its mailbox bytes, i and the old byte.
-use mathlib.Core.Bool.{Bool, true, false}
 use mathlib.Core.List.{List}
 use Prim.Native.Nat.{ℕ, _+_, _-_, _*_, _/_, _%_}
 use lib.Dec.{eqb, ltb}

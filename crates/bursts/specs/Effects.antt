@@ -1,7 +1,7 @@
 -- What the byte rule leaves of a record: a reader leaves all of it, a writer all outside its bursts, and a write that sets a
 -- state leaves that state. So the bursts of a request are its whole effect (`writes-whole`).
 use mathlib.Core.Path.{_≡_, refl, sym, _∙_, ap}
-use mathlib.Core.Bool.{true, false, false≢true}
+use mathlib.Core.Bool.{false, false≢true}
 use mathlib.Core.List.{List}
 use mathlib.Core.Logic.{inl, inr}
 use Prim.Native.Nat.{ℕ, _+_, _/_, _≤_, _<_}

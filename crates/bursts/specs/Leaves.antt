@@ -1,15 +1,15 @@
 -- What the code of the leaves meets: the byte rule reads inside the needed mailbox bytes, and a lent part leaves a burst.
 use mathlib.Core.Path.{_≡_, refl, sym, _∙_, ap}
 use mathlib.Core.Bool.{Bool, true, false, false≢true}
-use mathlib.Core.List.{List, _++_, append-nil}
+use mathlib.Core.List.{List, _++_}
 use Prim.Native.Nat.{ℕ, _+_, _-_, _*_, _/_, _≤_, _<_}
-use native.Mathlib.Nat.{add-sub-cancel-left, zero-add}
+use native.Mathlib.Nat.{add-sub-cancel-left}
 use native.Mathlib.Omega.{arith}
-use borrow.Author.Tests.{leb-true, eqb-true}
-use lib.Dec.{leb, eqb, lit<}
+use borrow.Author.Tests.{eqb-true}
+use lib.Dec.{eqb, lit<}
 use lib.ListN.{length, take, drop}
-use lib.Seq.{drop-length}
-use Rattle.words.specs.Choice.{pick-no, either, within, both-left, both-right}
+use Rattle.words.specs.Choice.{pick-no, either, within}
+use Rattle.words.specs.Tests.{within-low, within-high}
 use Rattle.words.specs.Parts.{part, splice, length-part, lent-splice}
 use Rattle.words.specs.Maps.{length-mapFrom}
 use Rattle.edges.specs.States.{stateCode}
@@ -26,13 +26,6 @@ use Rattle.tables.specs.Bursts.{psnPlace}
 use Rattle.bursts.specs.Bytes.{withState, takenByte, edgeByte, byteOf}
 use Rattle.bursts.specs.Moves.{writtenPart, writeAt, copyAt}
 use Rattle.bursts.specs.Taken.{takes, wordOf, zeroes}
-
--- What a range's test says.
-pub within-low : (a b i : ℕ) → within a b i ≡ true → a ≤ i
-within-low a b i t = leb-true a i (both-left (leb a i) (leb i b) t)
-
-pub within-high : (a b i : ℕ) → within a b i ≡ true → i ≤ b
-within-high a b i t = leb-true i b (both-right (leb a i) (leb i b) t)
 
 -- of two tests of which one holds, each bounds the number
 either-at-most : (p q : Bool) (i n : ℕ) → (p ≡ true → i ≤ n) → (q ≡ true → i ≤ n) → either p q ≡ true → i ≤ n
@@ -104,11 +97,6 @@ pub psnPlace-small : (p : Psn) → psnPlace p < 256
 psnPlace-small NextSend = lit< tt
 psnPlace-small LastAcked = lit< tt
 psnPlace-small Expected = lit< tt
-
--- a list that is replaced whole
-pub splice-all : (ys l : List ℕ) → length ys ≡ length l → splice 0 ys l ≡ ys
-unfolding splice
-splice-all ys l e = rw (zero-add, e, drop-length, append-nil)
 
 pub length-writtenPart : (q : Request) (mail : List ℕ) (first : ℕ) (p : List ℕ) → length (writtenPart q mail first p) ≡ length p
 unfolding writtenPart

@@ -1,7 +1,7 @@
 -- The burst table keeps to its records: for every request, its bursts fit and none comes twice, and its offsets, total and
 -- mailbox are small.
 use mathlib.Core.Path.{_≡_, refl, sym}
-use mathlib.Core.Bool.{true, false, false≢true}
+use mathlib.Core.Bool.{false, false≢true}
 use mathlib.Core.List.{List, [], _∷_}
 use mathlib.Core.Logic.{inl, inr}
 use Prim.Native.Nat.{ℕ, zero, suc, _+_, _*_, _≤_, _<_}
@@ -23,6 +23,7 @@ use Rattle.requests.specs.declared.Request.{Request}
 use Rattle.requests.specs.declared.Request.the-variants as request
 use Rattle.tables.specs.Records.{ownedRecord, recordOf, writesOf}
 use Rattle.tables.specs.Mailboxes.{storedOf, edgeNeed, needOf}
+use Rattle.tables.specs.Totals.{owned-size}
 use Rattle.tables.specs.Bursts.{burstsFrom, psnBursts, burstsOf, totalOf, offsetOf}
 use Rattle.tables.specs.Touched.{Touched}
 use Rattle.bursts.specs.Bursts.{Fit, Fresh, Distinct, fit-at}
@@ -62,11 +63,6 @@ psn-once : (p : Psn) → Distinct (psnBursts p)
 psn-once NextSend = (((λ e. omega (arith, e)), tt), (tt, tt))
 psn-once LastAcked = (((λ e. omega (arith, e)), tt), (tt, tt))
 psn-once Expected = (((λ e. omega (arith, e)), tt), (tt, tt))
-
-owned-size : (o : Owned) → recordSize (ownedRecord o) ≡ 64
-owned-size (owned.Mpt n) = refl
-owned-size (owned.Eq n) = refl
-owned-size (owned.Cq n) = refl
 
 -- For every request.
 pub bursts-fit : (q : Request) → Fit (recordSize (recordOf q)) (burstsOf q)
@@ -131,28 +127,6 @@ offset-small q m h =
 
 pub offset-room : (q : Request) (m : ℕ) → m < totalOf q → offsetOf q m + 16 ≤ 256
 offset-room q m h = omega (arith, offset-small q m h, record-small q)
-
-pub total-positive : (q : Request) → 1 ≤ totalOf q
-total-positive (request.Command (command.Sw2Hw o)) = lit≤ tt
-total-positive (request.Command (command.Hw2Sw o)) = lit≤ tt
-total-positive (request.Command (command.ResizeCq n)) = lit≤ tt
-total-positive (request.Command (command.QueryQp n)) = lit≤ tt
-total-positive (request.Command (command.ModifyQp e n)) = lit≤ tt
-total-positive (request.Engine (engine.ReadState n)) = lit≤ tt
-total-positive (request.Engine (engine.ReadNext n)) = lit≤ tt
-total-positive (request.Engine (engine.ReadAll n)) = lit≤ tt
-total-positive (request.Engine (engine.Write p n psn s)) = lit≤ tt
-
-pub total-small : (q : Request) → totalOf q ≤ 16
-total-small (request.Command (command.Sw2Hw o)) = lit≤ tt
-total-small (request.Command (command.Hw2Sw o)) = lit≤ tt
-total-small (request.Command (command.ResizeCq n)) = lit≤ tt
-total-small (request.Command (command.QueryQp n)) = lit≤ tt
-total-small (request.Command (command.ModifyQp e n)) = lit≤ tt
-total-small (request.Engine (engine.ReadState n)) = lit≤ tt
-total-small (request.Engine (engine.ReadNext n)) = lit≤ tt
-total-small (request.Engine (engine.ReadAll n)) = lit≤ tt
-total-small (request.Engine (engine.Write p n psn s)) = lit≤ tt
 
 -- the needed mailbox bytes fit the slot's part of the room; a reader needs none
 pub edge-small : (e : Edge) → edgeNeed e ≤ 164

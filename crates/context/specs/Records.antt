@@ -10,7 +10,7 @@ use native.Mathlib.Decide.{decLt}
 use borrow.Author.Tests.{ltb-true, eqb-true, eq-eqb}
 use lib.Dec.{eqb}
 use lib.ListN.{length, getD}
-use Rattle.words.specs.Choice.{both, both-left, both-right, both-yes}
+use Rattle.words.specs.Choice.{both-left, both-right, both-yes}
 use Rattle.words.specs.Parts.{splice, splice-apart, splice-below, splice-above, splice-inside}
 use Rattle.context.specs.Layout.{sizeOf, countOf, startOf, inUse, kindOf, numberOf, kindCode, rangesHold, isRecord, recordAt, recordSize, recordOf, sameRecord}
 use Rattle.context.specs.Counts.{in-use-small}

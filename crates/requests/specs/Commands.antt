@@ -1,5 +1,4 @@
 -- Document 01, "Commands": from op, op_modifier and in_modifier to the command.
-use mathlib.Core.List.{List}
 use Prim.Native.Nat.{ℕ}
 use lib.Dec.{eqb}
 use Rattle.words.specs.Choice.{pick}
@@ -17,11 +16,9 @@ use Rattle.edges.specs.declared.Edge.{Edge}
 use Rattle.edges.specs.declared.Edge.the-variants.{ResetToInit, InitToInit, InitToRtr, RtrToRts, RtsToRts, SqeToRts, RtsToSqd, SqdToSqd, SqdToRts, ToErr, ToReset}
 use Rattle.requests.specs.declared.Table.{Table}
 use Rattle.requests.specs.declared.Table.the-variants as table
-use Rattle.requests.specs.declared.Owned.{Owned}
 use Rattle.requests.specs.declared.Owned.the-variants as owned
 use Rattle.requests.specs.declared.OwnedFound.{OwnedFound}
 use Rattle.requests.specs.declared.OwnedFound.the-variants as ownedFound
-use Rattle.requests.specs.declared.Command.{Command}
 use Rattle.requests.specs.declared.Command.the-variants as command
 use Rattle.requests.specs.declared.CommandFound.{CommandFound}
 use Rattle.requests.specs.declared.CommandFound.the-variants as found

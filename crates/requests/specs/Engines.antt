@@ -7,11 +7,9 @@ use Rattle.context.specs.declared.Logs.{Logs}
 use Rattle.context.specs.declared.QpNumber.{QpNumber}
 use Rattle.context.specs.declared.QpFound.{QpFound}
 use Rattle.context.specs.declared.QpFound.the-variants as qpFound
-use Rattle.edges.specs.declared.State.{State as QpState}
 use Rattle.edges.specs.declared.State.the-variants.{Reset, Init, Rtr, Rts, Sqe, Sqd, Err}
 use Rattle.requests.specs.declared.Psn.{Psn}
 use Rattle.requests.specs.declared.Psn.the-variants.{NextSend, LastAcked, Expected}
-use Rattle.requests.specs.declared.Engine.{Engine}
 use Rattle.requests.specs.declared.Engine.the-variants as engine
 use Rattle.requests.specs.declared.EngineNumber.{EngineNumber}
 use Rattle.requests.specs.declared.EngineNumber.the-variants as number

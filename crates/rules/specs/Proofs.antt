@@ -1,7 +1,6 @@
 -- The proofs of the theorems. Nothing here has to be read to know what is claimed.
 --
 -- That the book's whole effect is the byte rule over all bytes:
-pub mod AgreeMaps
 pub mod AgreeEdges
 pub mod Agree
 pub mod AgreeState

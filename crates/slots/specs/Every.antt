@@ -9,7 +9,7 @@ use native.Mathlib.Nat.{suc-inj}
 use native.Mathlib.Omega.{arith}
 use lib.ListN.{getD, set}
 use lib.Seq.{getD-set-other}
-use Rattle.slots.specs.Neither.{neither-left, neither-right, neither}
+use Rattle.words.specs.Tests.{neither-left, neither-right, neither}
 use Rattle.slots.specs.Slots.{slot}
 use Rattle.slots.specs.Rows.{anySlot, anyRest}
 use Rattle.slots.specs.declared.Slot.{Slot}

@@ -12,7 +12,7 @@ use Rattle.context.specs.Records.{record-same}
 use Rattle.context.specs.declared.Record.{Record}
 use Rattle.requests.specs.declared.Request.{Request}
 use Rattle.tables.specs.Records.{recordOf, recordsOf, writesOf}
-use Rattle.slots.specs.Neither.{neither-left, either-swap, either-false, eqb-swap}
+use Rattle.words.specs.Tests.{neither-left, either-swap, either-false, eqb-swap}
 use Rattle.slots.specs.Slots.{slot}
 use Rattle.slots.specs.Rows.{anySlot, occupiedStatus, isOccupied, hasCommand, lowestFree}
 use Rattle.slots.specs.Holds.{clashPair, clashRecords, clashStatus, clashSlot, heldAgainst}

@@ -5,6 +5,5 @@ pub mod Holds
 pub mod Totals
 pub mod Scans
 pub mod Clashes
-pub mod Neither
 pub mod Every
 pub mod Laws

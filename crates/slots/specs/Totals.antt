@@ -3,34 +3,12 @@ use mathlib.Core.Path.{_≡_}
 use Prim.Native.Nat.{ℕ, _+_, _-_, _≤_, _<_}
 use native.Mathlib.Omega.{arith}
 use borrow.Author.Tests.{lt-ltb, le-ltb}
-use lib.Dec.{lit≤}
-use Rattle.requests.specs.declared.Command.{Command}
-use Rattle.requests.specs.declared.Command.the-variants as command
-use Rattle.requests.specs.declared.Engine.{Engine}
-use Rattle.requests.specs.declared.Engine.the-variants as engine
 use Rattle.requests.specs.declared.Request.{Request}
-use Rattle.requests.specs.declared.Request.the-variants as request
-use Rattle.tables.specs.Bursts.{commandTotal, engineTotal, totalOf}
+use Rattle.tables.specs.Totals.{total-positive}
+use Rattle.tables.specs.Bursts.{totalOf}
 use Rattle.slots.specs.Slots.{advancedStatus}
 use Rattle.slots.specs.declared.Status.{Status}
 use Rattle.slots.specs.declared.Status.the-variants.{Running, Finished}
-
-command-positive : (c : Command) → 1 ≤ commandTotal c
-command-positive (command.Sw2Hw o) = lit≤ tt
-command-positive (command.Hw2Sw o) = lit≤ tt
-command-positive (command.ResizeCq n) = lit≤ tt
-command-positive (command.QueryQp n) = lit≤ tt
-command-positive (command.ModifyQp e n) = lit≤ tt
-
-engine-positive : (e : Engine) → 1 ≤ engineTotal e
-engine-positive (engine.ReadState n) = lit≤ tt
-engine-positive (engine.ReadNext n) = lit≤ tt
-engine-positive (engine.ReadAll n) = lit≤ tt
-engine-positive (engine.Write p n psn s) = lit≤ tt
-
-pub total-positive : (q : Request) → 1 ≤ totalOf q
-total-positive (request.Command c) = command-positive c
-total-positive (request.Engine e) = engine-positive e
 
 -- a number that is a request's total
 pub is-positive : (q : Request) (t : ℕ) → t ≡ totalOf q → 1 ≤ t

@@ -13,7 +13,7 @@ use Rattle.context.specs.declared.Logs.{Logs}
 use Rattle.requests.specs.declared.Request.{Request}
 use Rattle.tables.specs.Records.{recordOf, writesOf, isCommand, psnHolds, numbersHold}
 use Rattle.tables.specs.Bursts.{totalOf}
-use Rattle.slots.specs.Neither.{neither-left, neither-right}
+use Rattle.words.specs.Tests.{neither-left, neither-right}
 use Rattle.slots.specs.Slots.{slot, advanced, emptyRow}
 use Rattle.slots.specs.Rows.{anySlot, isOccupied, hasCommand}
 use Rattle.slots.specs.Holds.{clashPair, heldAgainst}

@@ -5,7 +5,7 @@ use mathlib.Core.Bool.{Bool, true, false}
 use mathlib.Core.List.{List}
 use Rattle.words.specs.Choice.{both}
 use Rattle.tables.specs.Records.{recordsOf, writesOf}
-use Rattle.slots.specs.Neither.{both-swap, both-false}
+use Rattle.words.specs.Tests.{both-swap, both-false}
 use Rattle.slots.specs.Slots.{slot}
 use Rattle.slots.specs.Rows.{anySlot, hasCommand}
 use Rattle.slots.specs.Holds.{clashStatus, heldAgainst}

@@ -2,4 +2,5 @@
 pub mod Records
 pub mod Mailboxes
 pub mod Bursts
+pub mod Totals
 pub mod Touched

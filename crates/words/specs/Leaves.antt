@@ -1,5 +1,5 @@
 -- What the code of the leaves leaves behind, in the definitions' terms: four reads or stores, a copy, a fill.
-use mathlib.Core.Path.{_≡_, refl, sym, _∙_, ap}
+use mathlib.Core.Path.{_≡_, sym, _∙_, ap}
 use mathlib.Core.List.{List, [], _∷_, _++_, append-assoc, append-nil}
 use Prim.Native.Nat.{ℕ, suc, _+_, _-_, _*_, _/_, _%_, _≤_, _<_}
 use native.Mathlib.Nat.{add-sub-cancel-left}
@@ -7,7 +7,7 @@ use native.Mathlib.Numerals.{add-one, add-two, add-three}
 use native.Mathlib.Omega.{arith}
 use borrow.Author.Fill.{fill-more}
 use lib.ListN.{length, getD, take, drop, set, replicate, length-drop, length-replicate, drop-of-length-le}
-use lib.Seq.{drop-cons, sets, sets-eq, take-all, take-length, drop-length, drop-drop}
+use lib.Seq.{drop-cons, sets-eq, take-all, take-length, drop-length, drop-drop}
 use Rattle.words.specs.Parts.{part, splice, length-part, lent-splice}
 use Rattle.words.specs.Words.{leValue, beValue, leBytes, beBytes, le32, be32}
 

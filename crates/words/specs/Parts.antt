@@ -1,12 +1,13 @@
 -- A part of a list of bytes, and a list with a part replaced: where they lie, one inside the other, and apart.
 use mathlib.Core.Path.{_≡_, refl, sym, _∙_, ap}
-use mathlib.Core.List.{List, [], _∷_, _++_}
+use mathlib.Core.List.{List, [], _∷_, _++_, append-nil}
 use mathlib.Core.Logic.{_⊎_, inl, inr}
-use Prim.Native.Nat.{ℕ, _+_, _-_, _≤_, _<_}
+use Prim.Native.Nat.{ℕ, suc, _+_, _-_, _≤_, _<_}
+use native.Mathlib.Nat.{zero-add}
 use native.Mathlib.Decide.{decLt}
 use native.Mathlib.Omega.{arith}
-use lib.ListN.{length, getD, take, drop, length-append, length-take, length-drop, List·getD-append}
-use lib.Seq.{length-take-le, getD-append-add, getD-take, getD-drop, drop-drop, ext-getD}
+use lib.ListN.{length, getD, set, take, drop, length-append, length-take, length-drop, List·getD-append}
+use lib.Seq.{drop-length, length-take-le, getD-append-add, getD-take, getD-drop, drop-drop, ext-getD}
 
 -- the n elements of l from at
 unfoldable pub part : ℕ → ℕ → List ℕ → List ℕ
@@ -149,3 +150,34 @@ splice-part at n l h =
         let e : at + (i - at) ≡ i = omega arith in
         splice-in at (part at n l) l fits i (omega arith) (omega (arith, long)) ∙ getD-part at n l (i - at) (omega arith) ∙ ap (λ (x : ℕ). getD l x 0) e
     each i (no y) (no z) = splice-above at (part at n l) l fits i (omega (arith, long))
+
+-- nothing put leaves the list
+pub splice-none : (l : List ℕ) → splice 0 [] l ≡ l
+unfolding splice
+splice-none l = refl
+
+-- a first byte stored and the others copied behind it
+pub splice-first : (x : ℕ) (ys l : List ℕ) → 1 ≤ length l → splice 1 ys (set l 0 x) ≡ splice 0 (x ∷ ys) l
+unfolding splice
+splice-first x ys [] h = absurd (omega arith)
+splice-first x ys (y ∷ l) h =
+    let e : 1 + length ys ≡ suc (length ys) = omega arith in
+    let f : 0 + suc (length ys) ≡ suc (length ys) = omega arith in
+    rw (e, f)
+
+-- a single byte stored
+pub splice-one : (x : ℕ) (l : List ℕ) → 1 ≤ length l → set l 0 x ≡ splice 0 (x ∷ []) l
+unfolding splice
+splice-one x [] h = absurd (omega arith)
+splice-one x (y ∷ l) h = refl
+
+-- a list that is replaced whole
+pub splice-all : (ys l : List ℕ) → length ys ≡ length l → splice 0 ys l ≡ ys
+unfolding splice
+splice-all ys l e = rw (zero-add, e, drop-length, append-nil)
+
+-- two lists that agree from at to at + n have the same part there
+pub part-agrees : (at n : ℕ) (p c : List ℕ) → at + n ≤ length p → at + n ≤ length c → ((i : ℕ) → i < n → getD p (at + i) 0 ≡ getD c (at + i) 0) → part at n p ≡ part at n c
+part-agrees at n p c h k a =
+    ext-getD 0 (part at n p) (part at n c) (length-part at n p h ∙ sym (length-part at n c k))
+    (λ i j. let j′ : i < n = omega (arith, length-part at n p h) in getD-part at n p i j′ ∙ a i j′ ∙ sym (getD-part at n c i j′))

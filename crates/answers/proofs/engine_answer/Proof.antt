@@ -1,5 +1,5 @@
 -- `answers::engine_answer` meets its contract.
-use Rattle.answers.specs.Laws.{splice-none}
+use Rattle.words.specs.Parts.{splice-none}
 use mathlib.Core.Path.{sym}
 use borrow.Author.Needs.{needs}
 use Rattle.answers.proofs.engine_answer.Statement.{statement}

@@ -3,9 +3,8 @@ use mathlib.Core.Path.{_∙_}
 use Prim.Native.Nat.{_≤_}
 use native.Mathlib.Omega.{arith}
 use lib.ListN.{length, length-set}
-use Rattle.words.specs.Parts.{part, length-part}
+use Rattle.words.specs.Parts.{part, length-part, splice-first}
 use Rattle.answers.specs.Answers.{nextAnswer}
-use Rattle.answers.specs.Laws.{splice-first}
 use borrow.Author.Needs.{needs}
 use Rattle.answers.proofs.next_answer.Statement.{statement}
 use Rattle.answers.proofs.next_answer.Tie as tie

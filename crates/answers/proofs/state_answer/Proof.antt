@@ -1,6 +1,6 @@
 -- `answers::state_answer` meets its contract.
 use Rattle.answers.specs.Answers.{stateAnswer}
-use Rattle.answers.specs.Laws.{splice-one}
+use Rattle.words.specs.Parts.{splice-one}
 use borrow.Author.Needs.{needs}
 use Rattle.answers.proofs.state_answer.Statement.{statement}
 use Rattle.answers.proofs.state_answer.Tie as tie

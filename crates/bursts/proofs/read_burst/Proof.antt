@@ -1,5 +1,5 @@
 -- `bursts::read_burst` meets its contract.
-use Rattle.bursts.specs.Leaves.{splice-all}
+use Rattle.words.specs.Parts.{splice-all}
 use mathlib.Core.Path.{_∙_}
 use borrow.Author.Needs.{needs}
 use Rattle.bursts.proofs.read_burst.Statement.{statement}

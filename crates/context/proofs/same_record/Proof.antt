@@ -1,8 +1,7 @@
 -- `context::same_record` meets its contract.
 use mathlib.Core.Path.{_≡_}
-use Rattle.context.specs.Layout.{kindOf, numberOf, kindCode}
+use Rattle.context.specs.Layout.{kindOf, numberOf, kindCode, sameRecord}
 use Rattle.words.specs.Choice.{cases}
-use Rattle.context.specs.Layout.{sameRecord}
 use borrow.Author.Needs.{needs}
 use Rattle.context.proofs.same_record.Statement.{statement}
 use Rattle.context.proofs.same_record.Tie as tie

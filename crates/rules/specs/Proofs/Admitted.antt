@@ -7,9 +7,10 @@ use Prim.Native.Nat.{ℕ, _+_, _*_, _≤_, _<_}
 use native.Mathlib.Decide.{decLt}
 use native.Mathlib.Omega.{arith}
 use borrow.Author.Tests.{ltb-false}
-use lib.Dec.{T, ltb}
+use lib.Dec.{ltb}
 use lib.ListN.{length}
 use lib.Seq.{getD-set-same}
+use Rattle.words.specs.Tests.{is-true}
 use Rattle.words.specs.Choice.{by-pick}
 use Rattle.words.specs.Parts.{part, splice, length-part, length-splice, splice-apart, part-splice}
 use Rattle.context.specs.Layout.{isRecord, recordSize, inUse}
@@ -63,10 +64,6 @@ pub stays : (w : World) → Fine w w none
 stays w = record { ended = []; event = idle (record { looks = λ X. refl; slots = λ j. refl }) }
 
 -- ---- holds
-
-is-true : (b : Bool) → T b → b ≡ true
-is-true true t = refl
-is-true false t = absurd t
 
 passes : (r q : Request) (a b : List ℕ) → clashPair r (writesOf q) (touched q) ≡ false → Passes system (onRecord r a) (onRecord q b)
 passes r q a b h = record { out = out; back = back; also = tt }

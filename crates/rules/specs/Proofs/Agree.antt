@@ -14,7 +14,7 @@ use borrow.Author.Tests.{eq-eqb, ne-eqb, lt-ltb, le-ltb}
 use Rattle.words.specs.Choice.{pick, within, pick-yes, pick-no}
 use Rattle.words.specs.Parts.{part, splice, length-part, getD-part}
 use Rattle.words.specs.Words.{beBytes}
-use Rattle.words.specs.Maps.{mapFrom, length-mapFrom}
+use Rattle.words.specs.Maps.{mapFrom, length-mapFrom, made-map, map-cong, map-map, map-same, replicate-map, splice-map, copy-map}
 use Rattle.context.specs.Layout.{recordSize}
 use Rattle.requests.specs.declared.Psn.{Psn}
 use Rattle.requests.specs.declared.Psn.the-variants.{NextSend, LastAcked, Expected}
@@ -24,12 +24,13 @@ use Rattle.requests.specs.declared.Command.the-variants as command
 use Rattle.requests.specs.declared.Engine.the-variants as engine
 use Rattle.requests.specs.declared.Request.{Request}
 use Rattle.requests.specs.declared.Request.the-variants as request
-use Rattle.tables.specs.Records.{ownedRecord, recordOf, writesOf}
+use Rattle.tables.specs.Totals.{owned-size}
+use Rattle.tables.specs.Records.{recordOf, writesOf}
 use Rattle.tables.specs.Mailboxes.{storedOf, needOf}
 use Rattle.tables.specs.Bursts.{psnPlace}
 use Rattle.bursts.specs.Bytes.{sw2hwByte, resizeByte, psnByte, writeByte, byteOf}
 use Rattle.rules.specs.Whole.{ownedEffect, resizeEffect, setPsn, psnEffect, wholeEffect}
-use Rattle.rules.specs.Proofs.AgreeMaps.{made-map, map-cong, map-map, map-same, replicate-map, splice-map, copy-map, within-yes, within-no, beyond}
+use Rattle.words.specs.Tests.{within-yes, within-no, beyond}
 use Rattle.rules.specs.Proofs.AgreeEdges.{state-over, edge-bytes}
 
 -- n bytes of the mailbox, zeroes up to byte 63, and there the owner
@@ -74,11 +75,6 @@ unfolding sw2hwByte
 owned-bytes (owned.Mpt n) mail r h w = owned-map 56 7 mail r h refl w
 owned-bytes (owned.Eq n) mail r h w = owned-map 48 15 mail r h refl w
 owned-bytes (owned.Cq n) mail r h w = owned-map 56 7 mail r h refl w
-
-pub owned-size : (o : Owned) → recordSize (ownedRecord o) ≡ 64
-owned-size (owned.Mpt n) = refl
-owned-size (owned.Eq n) = refl
-owned-size (owned.Cq n) = refl
 
 resize-bytes : (mail r : List ℕ) → 8 ≤ length mail → length r ≡ 64 → resizeEffect mail r ≡ mapFrom (resizeByte mail) 0 r
 unfolding resizeEffect resizeByte

@@ -9,7 +9,7 @@ use lib.Dec.{eqb, leb}
 use lib.ListN.{length, getD, replicate}
 use borrow.Author.Tests.{eqb-true, leb-true}
 use Rattle.words.specs.Choice.{pick, both, either, within, pick-no, both-left, both-right}
-use Rattle.words.specs.Maps.{mapFrom, length-mapFrom}
+use Rattle.words.specs.Maps.{mapFrom, length-mapFrom, map-cong, map-map, map-same, replicate-map, splice-map, copy-map}
 use Rattle.edges.specs.Edges.{toOf}
 use Rattle.edges.specs.declared.State.{State}
 use Rattle.edges.specs.declared.Edge.{Edge}
@@ -18,7 +18,7 @@ use Rattle.tables.specs.Mailboxes.{edgeNeed}
 use Rattle.bursts.specs.Taken.{takes, wordOf, zeroes}
 use Rattle.bursts.specs.Bytes.{withState, takenByte, edgeByte}
 use Rattle.rules.specs.Whole.{takeWords, setState, edgeEffect}
-use Rattle.rules.specs.Proofs.AgreeMaps.{map-cong, map-map, map-same, replicate-map, splice-map, copy-map, within-yes, within-no, beyond, within-one, pick-either, either-assoc}
+use Rattle.words.specs.Tests.{within-yes, within-no, beyond, within-one, pick-either, either-assoc}
 
 state-map : (s : State) (r : List ℕ) → 1 ≤ length r → setState s r ≡ mapFrom (withState s) 0 r
 unfolding setState withState

@@ -5,7 +5,7 @@ use mathlib.Core.List.{List}
 use Prim.Native.Nat.{ℕ, _/_, _≤_}
 use native.Mathlib.Omega.{arith}
 use lib.ListN.{length, getD}
-use Rattle.words.specs.Maps.{mapFrom, getD-mapFrom}
+use Rattle.words.specs.Maps.{mapFrom, getD-mapFrom, map-same}
 use Rattle.context.specs.Layout.{sizeOf, kindOf}
 use Rattle.context.specs.declared.Kind.the-variants as kind
 use Rattle.edges.specs.States.{stateCode}
@@ -27,8 +27,7 @@ use Rattle.effects.specs.Fields.{stateOf}
 use Rattle.tables.specs.Bursts.{psnPlace}
 use Rattle.bursts.specs.Taken.{zeroes}
 use Rattle.bursts.specs.Bytes.{withState, takenByte, edgeByte, psnByte, writeByte, byteOf}
-use Rattle.rules.specs.Proofs.AgreeMaps.{map-same}
-use Rattle.rules.specs.Proofs.Agree.{owned-size}
+use Rattle.tables.specs.Totals.{owned-size}
 
 -- the state code after a request on a queue pair, from the code before: an edge and an engine write set it, a read leaves it;
 -- the other requests are not on queue pairs

@@ -34,8 +34,7 @@ use Rattle.effects.specs.Fields.{stateOf, serviceOf}
 use Rattle.effects.specs.Permission.{permissionOf}
 use Rattle.answers.specs.Answers.{answerSize}
 use Rattle.bursts.specs.Bytes.{byteOf}
-use Rattle.bursts.specs.Bursts.{burst, burst-out}
-use Rattle.bursts.specs.Bursts.{fit-at}
+use Rattle.bursts.specs.Bursts.{burst, burst-out, fit-at}
 use Rattle.bursts.specs.Table.{bursts-room, total-bursts}
 use Rattle.bursts.specs.Effects.{state-first}
 use Rattle.slots.specs.Slots.{slot, advanced, advancedStatus, freed}

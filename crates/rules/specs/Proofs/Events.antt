@@ -37,7 +37,7 @@ use Rattle.requests.specs.declared.Request.the-variants as request
 use Rattle.answers.specs.Answers.{answerSize}
 use Rattle.answers.specs.Laws.{length-answer}
 use Rattle.slots.specs.Slots.{slot, freed as freedSlot}
-use Rattle.slots.specs.Neither.{neither-left, neither-right}
+use Rattle.words.specs.Tests.{neither-left, neither-right}
 use Rattle.slots.specs.Every.{none-each}
 use Rattle.slots.specs.Rows.{anySlot, isOccupied, hasCommand, occupiedStatus}
 use Rattle.slots.specs.declared.Slot.{Slot}

@@ -1,12 +1,13 @@
 -- DEMAND 3 is proved: every call is an event (Events), so `serial` gives the claim for the system's book, and the plain book is the
 -- same book (Shown). What is left here is that the journal of Demand3 is the journal of `serial`, entry by entry.
 use mathlib.Core.Path.{_≡_, refl, sym, _∙_, ap, ap₂, subst}
-use mathlib.Core.Bool.{Bool, true, false}
+use mathlib.Core.Bool.{Bool, true}
 use mathlib.Core.List.{List, [], _∷_, _++_}
 use Prim.Native.Nat.{ℕ}
 use native.Mathlib.Decide.{ℕ-discrete}
 use borrow.Author.Tests.{eq-eqb, ne-eqb}
-use lib.Dec.{T, eqb}
+use lib.Dec.{eqb}
+use Rattle.words.specs.Tests.{is-true}
 use Rattle.words.specs.Choice.{pick, by-pick}
 use Rattle.context.specs.declared.Record.{Record}
 use Rattle.tables.specs.Records.{writesOf}
@@ -102,10 +103,6 @@ fins-same w (inSlot f k ∷ J) = go (statusAt k (w .row)) (fins-same w J)
 
 writing : (f : Fed) (X : Record) → ¬ Writing f X → ¬ Writes f (at X)
 writing (onRecord q mail) X n x = n (is-true (writesOf q) (x .0), sym (x .1))
-  where
-    is-true : (b : Bool) → T b → b ≡ true
-    is-true true t = refl
-    is-true false t = absurd t
 writing closeHca X n x = x
 writing nop X n x = x
 

@@ -19,7 +19,7 @@ use Rattle.tables.specs.Records.{recordOf as touched}
 use Rattle.tables.specs.Bursts.{burstsOf, totalOf}
 use Rattle.answers.specs.Answers.{answerOf}
 use Rattle.slots.specs.Slots.{slot}
-use Rattle.slots.specs.Neither.{neither-left, neither-right}
+use Rattle.words.specs.Tests.{neither-left, neither-right}
 use Rattle.states.specs.Laws.{closed-free as all-free, open-fits as fits, running-right, running-moved}
 use Rattle.states.specs.declared.Hca.{Hca}
 use Rattle.slots.specs.declared.Slot.{Slot}

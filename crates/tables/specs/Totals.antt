@@ -1,0 +1,41 @@
+-- Bounds of the request table.
+use mathlib.Core.Path.{_≡_, refl}
+use Prim.Native.Nat.{_≤_}
+use lib.Dec.{lit≤}
+use Rattle.context.specs.Layout.{recordSize}
+use Rattle.requests.specs.declared.Owned.{Owned}
+use Rattle.requests.specs.declared.Owned.the-variants as owned
+use Rattle.requests.specs.declared.Command.the-variants as command
+use Rattle.requests.specs.declared.Engine.the-variants as engine
+use Rattle.requests.specs.declared.Request.{Request}
+use Rattle.requests.specs.declared.Request.the-variants as request
+use Rattle.tables.specs.Records.{ownedRecord}
+use Rattle.tables.specs.Bursts.{totalOf}
+
+pub owned-size : (o : Owned) → recordSize (ownedRecord o) ≡ 64
+owned-size (owned.Mpt n) = refl
+owned-size (owned.Eq n) = refl
+owned-size (owned.Cq n) = refl
+
+-- every request moves a burst, and at most 16
+pub total-positive : (q : Request) → 1 ≤ totalOf q
+total-positive (request.Command (command.Sw2Hw o)) = lit≤ tt
+total-positive (request.Command (command.Hw2Sw o)) = lit≤ tt
+total-positive (request.Command (command.ResizeCq n)) = lit≤ tt
+total-positive (request.Command (command.QueryQp n)) = lit≤ tt
+total-positive (request.Command (command.ModifyQp e n)) = lit≤ tt
+total-positive (request.Engine (engine.ReadState n)) = lit≤ tt
+total-positive (request.Engine (engine.ReadNext n)) = lit≤ tt
+total-positive (request.Engine (engine.ReadAll n)) = lit≤ tt
+total-positive (request.Engine (engine.Write p n psn s)) = lit≤ tt
+
+pub total-small : (q : Request) → totalOf q ≤ 16
+total-small (request.Command (command.Sw2Hw o)) = lit≤ tt
+total-small (request.Command (command.Hw2Sw o)) = lit≤ tt
+total-small (request.Command (command.ResizeCq n)) = lit≤ tt
+total-small (request.Command (command.QueryQp n)) = lit≤ tt
+total-small (request.Command (command.ModifyQp e n)) = lit≤ tt
+total-small (request.Engine (engine.ReadState n)) = lit≤ tt
+total-small (request.Engine (engine.ReadNext n)) = lit≤ tt
+total-small (request.Engine (engine.ReadAll n)) = lit≤ tt
+total-small (request.Engine (engine.Write p n psn s)) = lit≤ tt
