@@ -256,7 +256,7 @@ pub fn read_at(store: &[u8], at: usize, room: &mut [u8], to: usize)
     requires { ⌜ to + 16 ≤ length (now room) ⌝ }
     ensures { λ _. ⌜ now (room .exit) ≡ copyAt at (now (store .entry)) to (now (room .entry)) ⌝ }
 {
-    let end = at + 16;
+    let until = at + 16;
     let stop = to + 16;
-    read_burst(&store[at..end], &mut room[to..stop]);
+    read_burst(&store[at..until], &mut room[to..stop]);
 }

@@ -4,8 +4,8 @@ use borrow.Author.Needs.{needs}
 use Rattle.bursts.proofs.read_at.Statement.{statement}
 use Rattle.bursts.proofs.read_at.Tie as tie
 
-add-end : tie.Need-add-end
-add-end c = search needs
+add-until : tie.Need-add-until
+add-until c = search needs
 
 add-stop : tie.Need-add-stop
 add-stop c = search needs
@@ -41,7 +41,7 @@ pub read-at-spec : {M : Type 1} → statement M
 read-at-spec =
     tie.close
     (tie.spec
-    add-end
+    add-until
     add-stop
     sub-read-burst
     part-read-burst-start
