@@ -41,6 +41,18 @@ record-inside g r h =
 pub record-small : (g : Logs) (r : Record) → rangesHold g ≡ true → isRecord g r ≡ true → recordAt g r + recordSize r ≤ 9439232
 record-small g r h k = omega (arith, record-inside g r k, in-use-small g h)
 
+-- where a record starts, from its kind, its table's start, its number and its size, as the code has them
+pub record Starts (g : Logs) (r : Record) (start number size : ℕ) : Type 0 where
+  pub is : start + number * size ≡ recordAt g r
+  pub small : start + number * size ≤ 9439232
+
+pub starts : (g : Logs) (r : Record) (k : Kind) (start number size : ℕ) → rangesHold g ≡ true → isRecord g r ≡ true
+    → k ≡ kindOf r → start ≡ startOf g k → number ≡ numberOf r → size ≡ sizeOf k → Starts g r start number size
+unfolding recordAt
+starts g r k start number size h i e s n z =
+    let is : start + number * size ≡ startOf g (kindOf r) + numberOf r * sizeOf (kindOf r) = rw (s, n, z, e) in
+    record { is = is; small = omega (arith, record-small g r h i) }
+
 -- ---- two records
 
 -- a record is its kind and its number

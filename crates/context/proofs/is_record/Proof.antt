@@ -18,7 +18,13 @@ below-count-requires c κs = search needs
 
 returns : tie.Need-returns
 unfolding isRecord
-returns c = cc
+returns c =
+    rw (
+      ← c .before .before .before .kind-of .ensures,
+      ← c .before .before .log-of .ensures,
+      ← c .before .number-of .ensures,
+    )
+    (c .below-count .ensures)
 
 pub is-record-spec : {M : Type 1} → statement M
 is-record-spec =

@@ -1,9 +1,6 @@
--- `context::record_at` meets its contract.
+-- `context::record_at` meets its contract: `starts` says what the sum is, and that no part of it wraps.
 use native.Mathlib.Omega.{arith}
-use mathlib.Core.Path.{_≡_}
-use Prim.Native.Nat.{_*_}
-use Rattle.context.specs.Layout.{kindOf, numberOf, sizeOf, startOf, recordAt}
-use Rattle.context.specs.Records.{record-small}
+use Rattle.context.specs.Records.{Starts, starts}
 use borrow.Author.Needs.{needs}
 use Rattle.context.proofs.record_at.Statement.{statement}
 use Rattle.context.proofs.record_at.Tie as tie
@@ -23,25 +20,24 @@ cast-result c = search needs
 size-requires : tie.Need-size-requires
 size-requires c κs = search needs
 
+sum : (c : tie.After-size) → Starts (c .before .before .before .before .args .logs) (c .before .before .before .before .args .rec) (c .before .before .table-start .result) (c .before .number-of .result) (c .size .result)
+sum c =
+    starts _ _ _ _ _ _
+    (c .before .before .before .before .pre .0)
+    (c .before .before .before .before .pre .1)
+    (c .before .before .before .kind-of .ensures)
+    (c .before .before .table-start .ensures)
+    (c .before .number-of .ensures)
+    (c .size .ensures)
+
 mul-result : tie.Need-mul-result
-unfolding recordAt
-mul-result c =
-    let a = c .before .before .before .before .args in
-    let e : c .before .number-of .result * c .size .result ≡ numberOf (a .rec) * sizeOf (kindOf (a .rec)) = cc in
-    let s : c .before .before .table-start .result ≡ startOf (a .logs) (kindOf (a .rec)) = cc in
-    omega (arith, record-small (a .logs) (a .rec) (c .before .before .before .before .pre .0) (c .before .before .before .before .pre .1))
+mul-result c = omega (arith, sum c .small)
 
 add-result : tie.Need-add-result
-unfolding recordAt
-add-result c =
-    let a = c .before .before .before .before .args in
-    let e : c .before .number-of .result * c .size .result ≡ numberOf (a .rec) * sizeOf (kindOf (a .rec)) = cc in
-    let s : c .before .before .table-start .result ≡ startOf (a .logs) (kindOf (a .rec)) = cc in
-    omega (arith, record-small (a .logs) (a .rec) (c .before .before .before .before .pre .0) (c .before .before .before .before .pre .1))
+add-result c = omega (arith, sum c .small)
 
 returns : tie.Need-returns
-unfolding recordAt
-returns c = cc
+returns c = sum c .is
 
 pub record-at-spec : {M : Type 1} → statement M
 record-at-spec =

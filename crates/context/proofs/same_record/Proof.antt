@@ -1,7 +1,6 @@
 -- `context::same_record` meets its contract.
-use mathlib.Core.Path.{_≡_}
-use Rattle.context.specs.Layout.{kindOf, numberOf, kindCode, sameRecord}
 use Rattle.words.specs.Choice.{cases}
+use Rattle.context.specs.Layout.{sameRecord}
 use borrow.Author.Needs.{needs}
 use Rattle.context.proofs.same_record.Statement.{statement}
 use Rattle.context.proofs.same_record.Tie as tie
@@ -21,10 +20,13 @@ kind-code-requires-2 c κs = search needs
 returns : tie.Need-returns
 unfolding sameRecord
 returns c =
-    let a = c .before .before .before .before .before .args in
-    let e : c .before .before .before .kind-code .result ≡ kindCode (kindOf (a .a)) = cc in
-    let f : c .before .kind-code2 .result ≡ kindCode (kindOf (a .b)) = cc in
-    rw (← e, ← f) (search cases)
+    rw (
+      ← c .before .before .before .before .kind-of .ensures,
+      ← c .before .before .before .kind-code .ensures,
+      ← c .before .before .kind-of2 .ensures,
+      ← c .before .kind-code2 .ensures,
+    )
+    (search cases)
 
 number-of-requires : tie.Need-number-of-requires
 number-of-requires c κs = search needs
@@ -35,12 +37,15 @@ number-of-requires-2 c κs = search needs
 returns-2 : tie.Need-returns-2
 unfolding sameRecord
 returns-2 c =
-    let a = c .before .before .before .before .before .before .before .args in
-    let e : c .before .before .before .before .before .kind-code .result ≡ kindCode (kindOf (a .a)) = cc in
-    let f : c .before .before .before .kind-code2 .result ≡ kindCode (kindOf (a .b)) = cc in
-    let n : c .before .number-of .result ≡ numberOf (a .a) = cc in
-    let m : c .number-of2 .result ≡ numberOf (a .b) = cc in
-    rw (← e, ← f, ← n, ← m) (search cases)
+    rw (
+      ← c .before .before .before .before .before .before .kind-of .ensures,
+      ← c .before .before .before .before .before .kind-code .ensures,
+      ← c .before .before .before .before .kind-of2 .ensures,
+      ← c .before .before .before .kind-code2 .ensures,
+      ← c .before .number-of .ensures,
+      ← c .number-of2 .ensures,
+    )
+    (search cases)
 
 pub same-record-spec : {M : Type 1} → statement M
 same-record-spec =

@@ -45,13 +45,24 @@ returns : tie.Need-returns
 returns c = search needs
 
 returns-2 : tie.Need-returns-2
-returns-2 c = cc
+returns-2 c = rw (c .enum-told2 .given .1, ← c .before .before .before .before .count .ensures .0)
 
 returns-3 : tie.Need-returns-3
-returns-3 c = cc
+returns-3 c =
+    rw (
+      c .enum-told3 .given .1,
+      ← c .before .before .before .before .count .ensures .0,
+      ← c .before .before .before .count2 .ensures .0,
+    )
 
 returns-4 : tie.Need-returns-4
-returns-4 c = cc
+returns-4 c =
+    rw (
+      c .enum-told4 .given .1,
+      ← c .before .before .before .before .count .ensures .0,
+      ← c .before .before .before .count2 .ensures .0,
+      ← c .before .before .count3 .ensures .0,
+    )
 
 pub table-start-spec : {M : Type 1} → statement M
 table-start-spec =

@@ -16,10 +16,10 @@ write-permitted-requires : tie.Need-write-permitted-requires
 write-permitted-requires c κs = search needs
 
 returns : tie.Need-returns
-returns c = cc
+returns c = rw (c .before .before .asked .given .1) (c .edge-permitted .ensures)
 
 returns-2 : tie.Need-returns-2
-returns-2 c = cc
+returns-2 c = rw (c .before .before .asked2 .given .1) (c .write-permitted .ensures)
 
 pub permitted-spec : {M : Type 1} → statement M
 permitted-spec =

@@ -67,13 +67,13 @@ modify-requires : tie.Need-modify-requires
 modify-requires c κs = search needs
 
 returns : tie.Need-returns
-returns c = cc
+returns c = rw (c .before .enum-told .given .1) (c .at-once .ensures)
 
 returns-2 : tie.Need-returns-2
-returns-2 c = cc
+returns-2 c = rw (c .before .enum-told2 .given .1) (c .at-once2 .ensures)
 
 returns-3 : tie.Need-returns-3
-returns-3 c = cc
+returns-3 c = rw (c .before .enum-told3 .given .1) (c .at-once3 .ensures)
 
 returns-4 : tie.Need-returns-4
 returns-4 c = rw (c .before .before .before .op .given .1, ← c .before .read-owned .ensures) (c .sw2hw .ensures)
@@ -82,10 +82,10 @@ returns-5 : tie.Need-returns-5
 returns-5 c = rw (c .before .before .before .op2 .given .1, ← c .before .read-owned2 .ensures) (c .hw2sw .ensures)
 
 returns-6 : tie.Need-returns-6
-returns-6 c = cc
+returns-6 c = rw (c .before .before .enum-told4 .given .1, ← c .before .cq-number .ensures) (c .resize .ensures)
 
 returns-7 : tie.Need-returns-7
-returns-7 c = cc
+returns-7 c = rw (c .before .before .enum-told5 .given .1, ← c .before .qp-number .ensures) (c .query .ensures)
 
 returns-8 : tie.Need-returns-8
 returns-8 c = rw (c .before .before .before .op3 .given .1, ← c .before .qp-number2 .ensures) (c .modify .ensures)

@@ -13,10 +13,10 @@ enum-told : tie.Need-enum-told
 enum-told c = search needs
 
 returns : tie.Need-returns
-returns c = cc
+returns c = rw (← c .before .before .before .eq-number .ensures, c .before .m .given .1)
 
 returns-2 : tie.Need-returns-2
-returns-2 c = cc
+returns-2 c = rw (← c .before .before .eq-number .ensures, c .enum-told .given .1)
 
 pub owned-eq-spec : {M : Type 1} → statement M
 owned-eq-spec = tie.close (tie.spec eq-number-requires enum-known-m enum-told returns returns-2)

@@ -22,13 +22,13 @@ owned-cq-requires : tie.Need-owned-cq-requires
 owned-cq-requires c κs = search needs
 
 returns : tie.Need-returns
-returns c = cc
+returns c = rw (c .before .enum-told .given .1) (c .owned-mpt .ensures)
 
 returns-2 : tie.Need-returns-2
-returns-2 c = cc
+returns-2 c = rw (c .before .enum-told2 .given .1) (c .owned-eq .ensures)
 
 returns-3 : tie.Need-returns-3
-returns-3 c = cc
+returns-3 c = rw (c .before .enum-told3 .given .1) (c .owned-cq .ensures)
 
 pub read-owned-spec : {M : Type 1} → statement M
 read-owned-spec =
