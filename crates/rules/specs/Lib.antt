@@ -18,5 +18,8 @@ pub mod Demand2
 pub mod Demand3
 pub mod Frames
 pub mod Theorems
+-- The rules at work.
+pub mod Examples
+pub mod Worked
 -- How it is proved.
 pub mod Proofs
