@@ -20,6 +20,7 @@ pub mod Frames
 pub mod Theorems
 -- The rules at work.
 pub mod Examples
+pub mod Scripts
 pub mod Worked
 -- How it is proved.
 pub mod Proofs

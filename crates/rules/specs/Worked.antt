@@ -1,104 +1,219 @@
--- The theorem of demand 3 is not empty: a worked list of calls.
+-- The theorem of demand 3 is not empty. A worked list of calls after an initialisation: every answer, the memory at the end, the
+-- journal and the finished requests, written out by hand from document 01 and computed; and what the theorem says of it.
 use mathlib.Core.Path.{_≡_, refl}
 use mathlib.Core.Bool.{true, false}
-use mathlib.Core.List.{List, [], _∷_, _++_, map}
-use Prim.Native.Nat.{ℕ, zero, suc}
-use lib.ListN.{take, replicate}
-use Rattle.words.specs.Maps.{mapFrom}
-use Rattle.words.specs.Parts.{part, splice}
-use Rattle.words.specs.Words.{bits, leValue, le32, leBytes, beValue, be32, beBytes}
-use Rattle.hcr.specs.Register.{paramAt, commandOf, wellFormed18, wellFormed, readRows, readOf, word18, leWords, wordsOf, registerOf}
-use Rattle.context.specs.Init.{logsOf, initOf}
-use Rattle.context.specs.Layout.{rangesHold, fitsStore, isRecord, recordAt, recordOf, sameRecord}
-use Rattle.edges.specs.States.{isService}
-use Rattle.edges.specs.Edges.{permitsEdge, isActive, writeKeeps, writeFails, isSending, writeStops, permitsWrite, judgeOf}
+use mathlib.Core.List.{List, [], _∷_, _++_}
+use Prim.Native.Nat.{ℕ}
+use lib.ListN.{replicate}
+use Rattle.context.specs.declared.Logs.{Logs}
 use Rattle.edges.specs.declared.State.the-variants.{Rtr, Rts}
 use Rattle.edges.specs.declared.Edge.the-variants.{ResetToInit, InitToRtr, RtrToRts}
-use Rattle.requests.specs.Commands.{opOf, commandOf as askedOf}
-use Rattle.requests.specs.Engines.{numberOf, stateFrom, engineOf}
 use Rattle.requests.specs.declared.Psn.the-variants.{LastAcked, Expected}
 use Rattle.requests.specs.declared.Owned.the-variants as owned
-use Rattle.requests.specs.declared.Command.the-variants as command′
+use Rattle.requests.specs.declared.Command.the-variants as on
 use Rattle.requests.specs.declared.Engine.the-variants as engine
 use Rattle.requests.specs.declared.Request.{Request}
 use Rattle.requests.specs.declared.Request.the-variants as request
-use Rattle.tables.specs.Records.{numbersHold}
-use Rattle.effects.specs.Fields.{stateOf, serviceOf, isHardware}
-use Rattle.answers.specs.Answers.{stateAnswer, nextAnswer, wholeAnswer}
-use Rattle.bursts.specs.Bytes.{withState, takenByte, edgeByte, sw2hwByte, resizeByte, psnByte, writeByte}
-use Rattle.bursts.specs.Moves.{writtenPart, writeAt, copyAt}
-use Rattle.slots.specs.Slots.{emptyRow}
-use Rattle.slots.specs.Rows.{anySlot, anyRest, lowestFree}
-use Rattle.slots.specs.Holds.{clashRecords, heldAgainst}
-use Rattle.states.specs.Possible.{commandBefore, twoCommands, holdsClash, openImpossible, impossible}
-use Rattle.rules.specs.declared.SubmitAnswer.the-variants as submit
-use Rattle.rules.specs.declared.StepAnswer.the-variants as steps
-use Rattle.rules.specs.declared.CollectAnswer.the-variants as collects
-use Rattle.rules.specs.declared.ResetAnswer.the-variants as resets
-use Rattle.rules.specs.Numbers.{refusalNumber}
-use Rattle.rules.specs.World.{World, world, hcaOf, roomOf, frontOf, statusAt, badRow, badStore, badLent, badState}
-use Rattle.rules.specs.Admission.{recordNow, taken, placed, judged, admit}
-use Rattle.rules.specs.Commands.{initialised, closed, asked, busy, served, register, submitCommand}
-use Rattle.rules.specs.Engines.{engineAsked, engineServed, submitEngine}
-use Rattle.rules.specs.Steps.{burstAt, storeMoved, roomMoved, slotMoved, moved, stepOn, stepOf}
-use Rattle.rules.specs.Collections.{answerAt, collectFinished, collectOn, collectOf}
-use Rattle.rules.specs.Resets.{resetOf}
-use Rattle.rules.specs.Book.{Fed, onRecord, nop}
-use Rattle.rules.specs.Calls.{Call, command, engineRequest, step, collection, resetting, Answer, submitted, stepped, collected, resetDone, answerOf, worldAfter, initialises}
+use Rattle.slots.specs.Slots.{slot}
+use Rattle.slots.specs.declared.Slot.{Slot}
+use Rattle.slots.specs.declared.Status.the-variants.{Free, Running, Finished}
+use Rattle.rules.specs.World.{World, world, hcaOf}
+use Rattle.rules.specs.Book.{Fed, onRecord, closeHca, nop}
+use Rattle.rules.specs.Calls.{engineRequest, step, collection, initialises}
 use Rattle.rules.specs.Demand3.{Entry, turnedAway, answered, inSlot, runFrom, Run, Done, done, finishedIn, bookOf, Demand3}
 use Rattle.rules.specs.Theorems.{demand3}
+use Rattle.rules.specs.Scripts.{Line, _gets_, callsOf, givenBy, answersFrom, allSteps, upFrom, asks, initMail, image, before, initHcr, start, everything}
 
--- ---- What is lent, and the calls' bytes
+-- ---- The mailboxes: of the edge to RTR; of SW2HW_CQ, with the index 1 in word 2Ch; of RESIZE_CQ
 
--- closed; a store that is 32 bytes longer than the tables, and a room that is 2 bytes longer than it has to be, both full of other bytes
-unfoldable pub before : World
-before = world (hcaOf false (record { qps = 99; cqs = 99; eqs = 99; mpts = 99 }) 0) emptyRow (replicate 800 0xee) (replicate 2050 0xdd)
+unfoldable pub image′ : List ℕ
+image′ = replicate 164 0xb2
 
--- a command's 28 bytes: op, op_modifier and in_modifier
-unfoldable pub hcrOf : ℕ → ℕ → ℕ → List ℕ
-hcrOf op modifier n = registerOf (record { «in_param» = 0; «in_modifier» = n; «out_param» = 0; token = 0; event = false; «op_modifier» = modifier; op = op })
+unfoldable pub cq : List ℕ
+cq = replicate 44 0xc1 ++ (0 ∷ 0 ∷ 0 ∷ 1 ∷ replicate 8 0xc2)
 
--- INIT_HCA's mailbox: two queue pairs, two completion queues, one event queue, one memory region; 768 bytes
-unfoldable pub initMail : List ℕ
-initMail = replicate 15 0 ++ (1 ∷ replicate 7 0 ++ (1 ∷ replicate 40 0))
+unfoldable pub resize : List ℕ
+resize = 0xa0 ∷ 0xa1 ∷ 0xa2 ∷ 0xa3 ∷ 0xa4 ∷ 0xa5 ∷ 0xa6 ∷ 0xa7 ∷ []
 
--- n numbers from i on
-abbrev pub upFrom : ℕ → ℕ → List ℕ
-upFrom i zero = []
-upFrom i (suc n) = i ∷ upFrom (suc i) n
+-- ---- The calls and their answers
 
--- a queue pair's image: byte i is i, but for byte 0, which has a state that is not read; the type is byte 1, UC
-unfoldable pub image : List ℕ
-image = 0x75 ∷ upFrom 1 163
+unfoldable pub lines : List Line
+lines =
+    -- no engine request has this number; the queue pair is in RESET, so RTR to RTS is not permitted; RESET to INIT is
+    engineRequest 7 0 0 0 gets (2 ∷ [])
+    ∷ asks 0x1b 0 image gets (0x85 ∷ [])
+    ∷ asks 0x19 0 image gets (0 ∷ 0 ∷ [])
+    -- it holds its record; the other queue pair is free; one command is uncollected
+    ∷ engineRequest 1 0 0 0 gets (0x81 ∷ [])
+    ∷ engineRequest 1 1 0 0 gets (0 ∷ 1 ∷ [])
+    ∷ asks 0x31 0 [] gets (0x81 ∷ [])
+    ∷ allSteps 0 16
+    ++ step 0 gets (0x84 ∷ [])
+    ∷ asks 0x31 0 [] gets (0x81 ∷ [])
+    ∷ collection 0 [] gets (0 ∷ 0 ∷ [])
+    ∷ asks 0x31 0 [] gets (0 ∷ [])
+    -- INIT to RTR
+    ∷ asks 0x1a 0 image′ gets (0 ∷ 0 ∷ [])
+    ∷ allSteps 0 16
+    ++ collection 0 [] gets (0 ∷ 0 ∷ [])
+    -- two readers of one record; a writer waits for both to finish, and not for their collection
+    ∷ engineRequest 2 0 0 0 gets (0 ∷ 0 ∷ [])
+    ∷ engineRequest 1 0 0 0 gets (0 ∷ 2 ∷ [])
+    ∷ step 0 gets (0 ∷ 1 ∷ [])
+    ∷ step 2 gets (0 ∷ 0 ∷ [])
+    ∷ engineRequest 5 0 0x20 2 gets (0x81 ∷ [])
+    ∷ step 0 gets (0 ∷ 0 ∷ [])
+    ∷ engineRequest 5 0 0x20 2 gets (0 ∷ 3 ∷ [])
+    -- state, then the PSN; the rest of the buffer stays
+    ∷ collection 0 (9 ∷ 9 ∷ 9 ∷ 9 ∷ 9 ∷ []) gets (0 ∷ 4 ∷ 2 ∷ 0x6d ∷ 0x6e ∷ 0x6f ∷ 9 ∷ [])
+    -- half written: held against a reader, and against a write that no state of the record permits
+    ∷ step 3 gets (0 ∷ 1 ∷ [])
+    ∷ collection 3 [] gets (0x86 ∷ [])
+    ∷ engineRequest 1 0 0 0 gets (0x81 ∷ [])
+    ∷ engineRequest 3 0 0 0 gets (0x81 ∷ [])
+    ∷ step 3 gets (0 ∷ 0 ∷ [])
+    -- RTR to RTS is no engine write
+    ∷ engineRequest 4 0 0x30 3 gets (0x85 ∷ [])
+    -- slots 1, 2 and 3 are occupied
+    ∷ asks 0x08 0 [] gets (0x81 ∷ [])
+    ∷ step 8 gets (0x84 ∷ [])
+    ∷ collection 4 [] gets (0x84 ∷ [])
+    -- a completion queue is handed over, then resized: the first of four bursts
+    ∷ asks 0x16 1 cq gets (0 ∷ 0 ∷ [])
+    ∷ allSteps 0 4
+    ++ collection 0 [] gets (0 ∷ 0 ∷ [])
+    ∷ asks 0x2c 1 resize gets (0 ∷ 0 ∷ [])
+    ∷ step 0 gets (0 ∷ 3 ∷ [])
+    ∷ []
 
-unfoldable pub start : World
-start = submitCommand before (hcrOf 0x07 0 0) initMail .world
+pub answers : answersFrom start (callsOf lines) ≡ givenBy lines
+unfolding everything lines image′ cq resize
+answers = refl
 
--- an answer as numbers: document 01's number, then the slot, the bursts left or the bytes collected
-abbrev pub shown : Answer → List ℕ
-shown (submitted submit.Done) = 0 ∷ []
-shown (submitted (submit.Accepted k)) = 0 ∷ k ∷ []
-shown (submitted (submit.Refused c)) = refusalNumber c ∷ []
-shown (stepped (steps.Left n)) = 0 ∷ n ∷ []
-shown (stepped (steps.Refused c)) = refusalNumber c ∷ []
-shown (collected (collects.Collected n) out) = 0 ∷ take n out
-shown (collected (collects.Refused c) out) = refusalNumber c ∷ []
-shown (resetDone resets.Done) = 0 ∷ []
-shown (resetDone (resets.Refused c)) = refusalNumber c ∷ []
+-- ---- What is left
 
--- the answers of a list of calls
-unfoldable pub answersFrom : World → List Call → List (List ℕ)
-answersFrom w [] = []
-answersFrom w (c ∷ cs) = shown (answerOf w c) ∷ answersFrom (worldAfter w c) cs
+unfoldable pub end : Run
+end = runFrom start [] (callsOf lines)
 
-unfoldable pub all : ℕ
-unfolding before hcrOf initMail image start answersFrom part splice mapFrom bits leValue le32 leBytes beValue be32 beBytes paramAt commandOf wellFormed18 wellFormed readRows readOf word18 leWords wordsOf registerOf logsOf initOf rangesHold fitsStore isRecord recordAt recordOf sameRecord isService permitsEdge isActive writeKeeps writeFails isSending writeStops permitsWrite judgeOf opOf askedOf numberOf stateFrom engineOf numbersHold stateOf serviceOf isHardware stateAnswer nextAnswer wholeAnswer withState takenByte edgeByte sw2hwByte resizeByte psnByte writeByte writtenPart writeAt copyAt anySlot anyRest lowestFree clashRecords heldAgainst commandBefore twoCommands holdsClash openImpossible impossible roomOf frontOf statusAt badRow badStore badLent badState recordNow taken placed judged admit initialised closed asked busy served register submitCommand engineAsked engineServed submitEngine burstAt storeMoved roomMoved slotMoved moved stepOn stepOf answerAt collectFinished collectOn collectOf resetOf initialises
-all = 0
+-- the requests that were made
+abbrev pub toRts : Request
+toRts = request.Command (on.ModifyQp RtrToRts (record { 0 = 0 }))
 
-t1 : initialises before (hcrOf 0x07 0 0) initMail ≡ true
-unfolding all
-t1 = refl
+abbrev pub toInit : Request
+toInit = request.Command (on.ModifyQp ResetToInit (record { 0 = 0 }))
 
-t2 : answersFrom start (engineRequest 1 0 0 0 ∷ step 0 ∷ []) ≡ (0 ∷ 0 ∷ []) ∷ (0 ∷ 0 ∷ []) ∷ []
-unfolding all
-t2 = refl
+abbrev pub toRtr : Request
+toRtr = request.Command (on.ModifyQp InitToRtr (record { 0 = 0 }))
+
+abbrev pub readState : ℕ → Request
+readState n = request.Engine (engine.ReadState (record { 0 = n }))
+
+abbrev pub readNext : Request
+readNext = request.Engine (engine.ReadNext (record { 0 = 0 }))
+
+abbrev pub writeExpected : Request
+writeExpected = request.Engine (engine.Write Expected (record { 0 = 0 }) 0x20 Rtr)
+
+abbrev pub writeAcked : Request
+writeAcked = request.Engine (engine.Write LastAcked (record { 0 = 0 }) 0x30 Rts)
+
+abbrev pub ownCq : Request
+ownCq = request.Command (on.Sw2Hw (owned.Cq (record { 0 = 1 })))
+
+abbrev pub resizeCq : Request
+resizeCq = request.Command (on.ResizeCq (record { 0 = 1 }))
+
+-- the slots: request and bursts moved
+unfoldable pub row : List Slot
+row =
+    slot (Running resizeCq 1)
+    ∷ slot (Running (readState 1) 0)
+    ∷ slot (Finished (readState 0) 1)
+    ∷ slot (Finished writeExpected 2)
+    ∷ slot Free
+    ∷ slot Free
+    ∷ slot Free
+    ∷ slot Free
+    ∷ []
+
+-- queue pair 0: its state is RTR; words 04h to 4Ch and word 84h are those of the second image, but for the PSN; from A4h on it is as
+-- INIT_HCA left it. Completion queue 1: byte 0Ch is new, word 18h not yet. Behind the tables nothing has changed.
+unfoldable pub store : List ℕ
+store =
+    (0x25 ∷ upFrom 1 3)
+    ++ replicate 76 0xb2
+    ++ upFrom 0x50 52
+    ++ (0xb2 ∷ 0 ∷ 0 ∷ 0x20 ∷ upFrom 0x88 28)
+    ++ replicate 92 0
+    ++ replicate 256 0
+    ++ replicate 64 0
+    ++ (replicate 12 0xc1 ++ (0xa0 ∷ replicate 31 0xc1) ++ (0 ∷ 0 ∷ 0 ∷ 1 ∷ replicate 8 0xc2) ++ (replicate 7 0 ++ (1 ∷ [])))
+    ++ replicate 128 0
+    ++ replicate 32 0xee
+
+-- slot 0's part has its last mailbox at the front and, behind it, what is left of those before and of the PSN's burst, which was copied
+-- to its offset, 60h; slot 2's part has the state's burst; an engine's write puts nothing into the room
+unfoldable pub room : List ℕ
+room =
+    resize
+    ++ replicate 36 0xc1
+    ++ (0 ∷ 0 ∷ 0 ∷ 1 ∷ replicate 8 0xc2)
+    ++ replicate 40 0xb2
+    ++ upFrom 0x60 16
+    ++ replicate 52 0xb2
+    ++ replicate 92 0xdd
+    ++ replicate 256 0xdd
+    ++ (0x25 ∷ 1 ∷ 2 ∷ 3 ∷ replicate 12 0xb2)
+    ++ replicate 240 0xdd
+    ++ replicate 1282 0xdd
+
+pub left : end .world ≡ world (hcaOf true (record { qps = 1; cqs = 1; eqs = 0; mpts = 0 }) 800) row store room
+unfolding everything lines image′ cq resize end row store room
+left = refl
+
+-- ---- The journal, and the requests that are finished
+
+unfoldable pub journal : List Entry
+journal =
+    turnedAway (onRecord toRts image) 0x85
+    ∷ answered (onRecord toInit image) []
+    ∷ inSlot (onRecord (readState 1) []) 1
+    ∷ answered nop []
+    ∷ answered (onRecord toRtr image′) []
+    ∷ answered (onRecord readNext []) (2 ∷ 0x6d ∷ 0x6e ∷ 0x6f ∷ [])
+    ∷ inSlot (onRecord (readState 0) []) 2
+    ∷ inSlot (onRecord writeExpected []) 3
+    ∷ turnedAway (onRecord writeAcked []) 0x85
+    ∷ answered (onRecord ownCq cq) []
+    ∷ inSlot (onRecord resizeCq resize) 0
+    ∷ []
+
+pub journal-is : end .journal ≡ journal
+unfolding everything lines image′ cq resize end journal
+journal-is = refl
+
+-- two of them are not collected; the resizing and the read of queue pair 1 are not finished
+unfoldable pub finished : List Done
+finished =
+    done (onRecord toInit image) []
+    ∷ done nop []
+    ∷ done (onRecord toRtr image′) []
+    ∷ done (onRecord readNext []) (2 ∷ 0x6d ∷ 0x6e ∷ 0x6f ∷ [])
+    ∷ done (onRecord (readState 0) []) (2 ∷ [])
+    ∷ done (onRecord writeExpected []) []
+    ∷ done (onRecord ownCq cq) []
+    ∷ []
+
+pub finished-is : finishedIn (end .world) (end .journal) ≡ finished
+unfolding everything lines image′ cq resize end finished
+finished-is = refl
+
+-- ---- What the theorem says of it
+
+pub initialises-it : initialises before initHcr initMail ≡ true
+unfolding everything
+initialises-it = refl
+
+pub demanded : Demand3 (bookOf start) (end .world) (end .journal)
+unfolding start end
+demanded = demand3 before initHcr initMail initialises-it (callsOf lines)
