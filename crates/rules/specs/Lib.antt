@@ -22,5 +22,7 @@ pub mod Theorems
 pub mod Examples
 pub mod Scripts
 pub mod Worked
+pub mod Closing
+pub mod Order
 -- How it is proved.
 pub mod Proofs
