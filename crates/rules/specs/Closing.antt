@@ -1,17 +1,15 @@
 -- Short lists of calls: one that closes, one that is reset, and a full row. The answers are written out by hand from document 01.
 use mathlib.Core.Path.{_≡_, refl}
-use mathlib.Core.Bool.{true, false}
+use mathlib.Core.Bool.{false}
 use mathlib.Core.List.{List, [], _∷_, _++_}
-use Prim.Native.Nat.{ℕ}
 use lib.ListN.{replicate}
-use Rattle.words.specs.Parts.{part}
 use Rattle.requests.specs.declared.Engine.the-variants as engine
 use Rattle.requests.specs.declared.Request.the-variants as request
 use Rattle.slots.specs.Slots.{emptyRow}
-use Rattle.rules.specs.World.{World, world, hcaOf}
-use Rattle.rules.specs.Book.{Fed, onRecord, closeHca, nop}
-use Rattle.rules.specs.Calls.{Call, engineRequest, step, collection, resetting, worldAfter}
-use Rattle.rules.specs.Demand3.{Entry, answered, runFrom, Run, Done, done, finishedIn, bookOf, Demand3}
+use Rattle.rules.specs.World.{world, hcaOf}
+use Rattle.rules.specs.Book.{onRecord, closeHca, nop}
+use Rattle.rules.specs.Calls.{engineRequest, step, collection, resetting, worldAfter}
+use Rattle.rules.specs.Demand3.{answered, runFrom, Run, done, finishedIn, bookOf, Demand3}
 use Rattle.rules.specs.Theorems.{demand3}
 use Rattle.rules.specs.Scripts.{Line, _gets_, callsOf, givenBy, answersFrom, allSteps, asks, initMail, image, before, initHcr, start, everything}
 use Rattle.rules.specs.Worked.{initialises-it}

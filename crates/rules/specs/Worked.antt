@@ -1,11 +1,13 @@
 -- The theorem of demand 3 is not empty. A worked list of calls after an initialisation: every answer, the memory at the end, the
 -- journal and the finished requests, written out by hand from document 01 and computed; and what the theorem says of it.
 use mathlib.Core.Path.{_≡_, refl}
-use mathlib.Core.Bool.{true, false}
+use mathlib.Core.Bool.{true, false≢true}
 use mathlib.Core.List.{List, [], _∷_, _++_}
 use Prim.Native.Nat.{ℕ}
-use lib.ListN.{replicate}
-use Rattle.context.specs.declared.Logs.{Logs}
+use lib.ListN.{take, drop, replicate}
+use Rattle.context.specs.Layout.{recordOf}
+use Rattle.context.specs.Records.{record-same}
+use Rattle.context.specs.declared.Record.the-variants as rec
 use Rattle.edges.specs.declared.State.the-variants.{Rtr, Rts}
 use Rattle.edges.specs.declared.Edge.the-variants.{ResetToInit, InitToRtr, RtrToRts}
 use Rattle.requests.specs.declared.Psn.the-variants.{LastAcked, Expected}
@@ -17,10 +19,10 @@ use Rattle.requests.specs.declared.Request.the-variants as request
 use Rattle.slots.specs.Slots.{slot}
 use Rattle.slots.specs.declared.Slot.{Slot}
 use Rattle.slots.specs.declared.Status.the-variants.{Free, Running, Finished}
-use Rattle.rules.specs.World.{World, world, hcaOf}
-use Rattle.rules.specs.Book.{Fed, onRecord, closeHca, nop}
+use Rattle.rules.specs.World.{world, hcaOf}
+use Rattle.rules.specs.Book.{onRecord, nop, numberOf, replyOf}
 use Rattle.rules.specs.Calls.{engineRequest, step, collection, initialises}
-use Rattle.rules.specs.Demand3.{Entry, turnedAway, answered, inSlot, runFrom, Run, Done, done, finishedIn, bookOf, Demand3}
+use Rattle.rules.specs.Demand3.{Entry, turnedAway, answered, inSlot, runFrom, Run, Done, done, finishedIn, given, bookOf, Demand3}
 use Rattle.rules.specs.Theorems.{demand3}
 use Rattle.rules.specs.Scripts.{Line, _gets_, callsOf, givenBy, answersFrom, allSteps, upFrom, asks, initMail, image, before, initHcr, start, everything}
 
@@ -217,3 +219,24 @@ initialises-it = refl
 pub demanded : Demand3 (bookOf start) (end .world) (end .journal)
 unfolding start end
 demanded = demand3 before initHcr initMail initialises-it (callsOf lines)
+
+-- and so, of the read of the next PSN, given to the book after the three requests that were accepted before it:
+pub reads : (numberOf (onRecord readNext []) (given (bookOf start) (take 3 finished)) ≡ 0)
+    × (replyOf (onRecord readNext []) (given (bookOf start) (take 3 finished)) ≡ 2 ∷ 0x6d ∷ 0x6e ∷ 0x6f ∷ [])
+unfolding finished
+reads =
+    let d : Done = done (onRecord readNext []) (2 ∷ 0x6d ∷ 0x6e ∷ 0x6f ∷ []) in
+    (demanded .accepts (take 3 finished) (drop 4 finished) d finished-is, demanded .answers (take 3 finished) (drop 4 finished) d finished-is)
+
+-- of the write that is refused for the record's state, after six:
+pub refuses : numberOf (onRecord writeAcked []) (given (bookOf start) (finishedIn (end .world) (take 8 journal))) ≡ 0x85
+unfolding journal
+refuses = demanded .refusals (take 8 journal) (drop 9 journal) (onRecord writeAcked []) 0x85 journal-is
+
+-- of queue pair 0, which nobody is writing:
+pub keeps : recordOf (end .world .hca .logs) (rec.Qp (record { 0 = 0 })) (end .world .store)
+    ≡ given (bookOf start) (finishedIn (end .world) (end .journal)) .bytes (rec.Qp (record { 0 = 0 }))
+unfolding everything lines image′ cq resize end
+keeps =
+    demanded .records (rec.Qp (record { 0 = 0 })) refl
+    ((λ x. absurd (false≢true (x .0))), (tt, (tt, ((λ x. absurd (false≢true (record-same _ _ (x .1)))), tt))))

@@ -5,7 +5,7 @@ use mathlib.Core.List.{List, [], _++_}
 use Prim.Native.Nat.{ℕ, _+_, _≤_, _<_}
 use native.Mathlib.Omega.{arith}
 use lib.Dec.{ltb}
-use lib.ListN.{length, getD, drop, replicate, length-append, length-replicate, getD-replicate, List·getD-append}
+use lib.ListN.{length, drop, replicate, length-append, length-replicate, getD-replicate, List·getD-append}
 use lib.Seq.{ext-getD}
 use Rattle.words.specs.Choice.{pick, either, by-pick}
 use Rattle.words.specs.Parts.{part, splice, length-part, getD-part}
@@ -31,7 +31,7 @@ use Rattle.rules.specs.World.{World, statusAt, badLent, badState}
 use Rattle.rules.specs.Admission.{Submitted}
 use Rattle.rules.specs.Commands.{initialised, asked, badSystem, busy, served, register, submitCommand}
 use Rattle.rules.specs.Calls.{opFound as opAsked, registerFound, commandFound, isDone, isInit, initialises}
-use Rattle.rules.specs.Demand3.{bookOf, Zeroed}
+use Rattle.rules.specs.Demand3.{Zeroed}
 use Rattle.rules.specs.Proofs.View.{closed-free}
 use Rattle.rules.specs.Proofs.Found.{init-closed}
 
