@@ -13,8 +13,9 @@ use mathlib.Core.Bool.{true}
 use mathlib.Core.List.{List, [], _∷_, _++_}
 use Prim.Native.Nat.{ℕ}
 use lib.Dec.{eqb}
+use lib.ListN.{replicate}
 use Rattle.words.specs.Choice.{pick}
-use Rattle.context.specs.Layout.{isRecord, recordOf}
+use Rattle.context.specs.Layout.{isRecord, recordOf, recordSize}
 use Rattle.context.specs.declared.Record.{Record}
 use Rattle.tables.specs.Records.{recordOf as touched, writesOf}
 use Rattle.slots.specs.declared.Status.{Status}
@@ -133,3 +134,10 @@ Statement =
     → let start : World = submitCommand before bytes mail .world in
     let end : Run = runFrom start [] calls in
     Demand3 (bookOf start) (end .world) (end .journal)
+
+-- Of that book at its start: "by INIT_HCA all zero".
+abbrev pub Zeroed : Type 0
+Zeroed =
+    (before : World) (bytes mail : List ℕ) → initialises before bytes mail ≡ true
+    → let start : World = submitCommand before bytes mail .world in
+    (X : Record) → isRecord (start .hca .logs) X ≡ true → bookOf start .bytes X ≡ replicate (recordSize X) 0

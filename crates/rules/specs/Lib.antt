@@ -18,5 +18,11 @@ pub mod Demand2
 pub mod Demand3
 pub mod Frames
 pub mod Theorems
+-- The rules at work.
+pub mod Examples
+pub mod Scripts
+pub mod Worked
+pub mod Closing
+pub mod Order
 -- How it is proved.
 pub mod Proofs

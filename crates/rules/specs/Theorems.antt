@@ -1,9 +1,10 @@
 -- THE THEOREMS about the rules. They assume nothing.
 use Rattle.rules.specs.Frames.{Refusals, Records}
 use Rattle.rules.specs.Demand2.{Statement as States}
-use Rattle.rules.specs.Demand3.{Statement as Serial}
+use Rattle.rules.specs.Demand3.{Zeroed, Statement as Serial}
 use Rattle.rules.specs.Proofs.Frame as frame
 use Rattle.rules.specs.Proofs.Edges as edges
+use Rattle.rules.specs.Proofs.Started as started
 use Rattle.rules.specs.Proofs.Serial as serial
 
 -- a refusal changes nothing
@@ -17,6 +18,10 @@ records = frame.records-framed
 -- a queue pair's state moves only along permitted edges
 pub demand2 : States
 demand2 = edges.demand2
+
+-- the book starts with records that are all zero
+pub zeroed : Zeroed
+zeroed = started.begins-zero
 
 -- the finished requests, given to the plain book in the order of acceptance, are all accepted; records, answers and refusals are the
 -- book's

@@ -1,0 +1,111 @@
+-- Short lists of calls: one that closes, one that is reset, and a full row. The answers are written out by hand from document 01.
+use mathlib.Core.Path.{_≡_, refl}
+use mathlib.Core.Bool.{false}
+use mathlib.Core.List.{List, [], _∷_, _++_}
+use lib.ListN.{replicate}
+use Rattle.requests.specs.declared.Engine.the-variants as engine
+use Rattle.requests.specs.declared.Request.the-variants as request
+use Rattle.slots.specs.Slots.{emptyRow}
+use Rattle.rules.specs.World.{world, hcaOf}
+use Rattle.rules.specs.Book.{onRecord, closeHca, nop}
+use Rattle.rules.specs.Calls.{engineRequest, step, collection, resetting, worldAfter}
+use Rattle.rules.specs.Demand3.{answered, runFrom, Run, done, finishedIn, bookOf, Demand3}
+use Rattle.rules.specs.Theorems.{demand3}
+use Rattle.rules.specs.Scripts.{Line, _gets_, callsOf, givenBy, answersFrom, allSteps, asks, initMail, image, before, initHcr, start, everything}
+use Rattle.rules.specs.Worked.{initialises-it}
+
+-- ---- CLOSE_HCA
+
+-- a slot is occupied; then none is; closed, all but NOP gets 4, and no slot has a request
+unfoldable pub closing : List Line
+closing =
+    engineRequest 1 1 0 0 gets (0 ∷ 0 ∷ [])
+    ∷ step 0 gets (0 ∷ 0 ∷ [])
+    ∷ asks 0x08 0 [] gets (0x81 ∷ [])
+    ∷ collection 0 (9 ∷ 9 ∷ []) gets (0 ∷ 1 ∷ 0 ∷ 9 ∷ [])
+    ∷ asks 0x08 0 [] gets (0 ∷ [])
+    ∷ asks 0x31 0 [] gets (0 ∷ [])
+    ∷ engineRequest 1 1 0 0 gets (4 ∷ [])
+    ∷ asks 0x22 0 [] gets (4 ∷ [])
+    ∷ asks 0x08 0 [] gets (4 ∷ [])
+    ∷ step 0 gets (0x84 ∷ [])
+    ∷ []
+
+pub closing-answers : answersFrom start (callsOf closing) ≡ givenBy closing
+unfolding everything closing
+closing-answers = refl
+
+unfoldable pub closed : Run
+closed = runFrom start [] (callsOf closing)
+
+-- a refusal with 4 is not for a record's state
+pub closing-journal : closed .journal
+    ≡ answered (onRecord (request.Engine (engine.ReadState (record { 0 = 1 }))) []) (0 ∷ []) ∷ answered closeHca [] ∷ answered nop [] ∷ []
+unfolding everything closing closed
+closing-journal = refl
+
+pub closing-finished : finishedIn (closed .world) (closed .journal)
+    ≡ done (onRecord (request.Engine (engine.ReadState (record { 0 = 1 }))) []) (0 ∷ []) ∷ done closeHca [] ∷ done nop [] ∷ []
+unfolding everything closing closed
+closing-finished = refl
+
+pub closing-demanded : Demand3 (bookOf start) (closed .world) (closed .journal)
+unfolding start closed
+closing-demanded = demand3 before initHcr initMail initialises-it (callsOf closing)
+
+-- ---- Reset
+
+-- "leaves store and room, empties all slots and closes. A request dropped by it leaves its record as the last burst left it"
+pub dropped : worldAfter (worldAfter (worldAfter start (asks 0x19 0 image)) (step 0)) resetting
+    ≡ world (hcaOf false (record { qps = 1; cqs = 1; eqs = 0; mpts = 0 }) 800) emptyRow
+    (0x15 ∷ 1 ∷ 2 ∷ 3 ∷ 4 ∷ 5 ∷ 6 ∷ 7 ∷ 8 ∷ 9 ∷ 10 ∷ 11 ∷ 12 ∷ 13 ∷ 14 ∷ 15 ∷ replicate 752 0 ++ replicate 32 0xee)
+    (image ++ replicate 1886 0xdd)
+unfolding everything
+dropped = refl
+
+-- after it the adapter is initialised again, and the dropped request's record is zero
+unfoldable pub resetAnd : List Line
+resetAnd =
+    asks 0x19 0 image gets (0 ∷ 0 ∷ [])
+    ∷ step 0 gets (0 ∷ 15 ∷ [])
+    ∷ resetting gets (0 ∷ [])
+    ∷ asks 0x31 0 [] gets (0 ∷ [])
+    ∷ step 0 gets (0x84 ∷ [])
+    ∷ engineRequest 1 0 0 0 gets (4 ∷ [])
+    ∷ asks 0x07 0 initMail gets (0 ∷ [])
+    ∷ asks 0x07 0 initMail gets (4 ∷ [])
+    ∷ engineRequest 6 0 0 0 gets (0 ∷ 0 ∷ [])
+    ∷ allSteps 0 16
+    ++ collection 0 (replicate 257 9) gets (0 ∷ 256 ∷ replicate 256 0 ++ 9 ∷ [])
+    ∷ []
+
+pub reset-answers : answersFrom start (callsOf resetAnd) ≡ givenBy resetAnd
+unfolding everything resetAnd
+reset-answers = refl
+
+-- ---- A full row: "ninth request 0x82; after one collect, accepted in that slot"
+
+unfoldable pub full : List Line
+full =
+    engineRequest 1 0 0 0 gets (0 ∷ 0 ∷ [])
+    ∷ engineRequest 1 0 0 0 gets (0 ∷ 1 ∷ [])
+    ∷ engineRequest 1 0 0 0 gets (0 ∷ 2 ∷ [])
+    ∷ engineRequest 1 0 0 0 gets (0 ∷ 3 ∷ [])
+    ∷ engineRequest 1 0 0 0 gets (0 ∷ 4 ∷ [])
+    ∷ engineRequest 1 0 0 0 gets (0 ∷ 5 ∷ [])
+    ∷ engineRequest 1 0 0 0 gets (0 ∷ 6 ∷ [])
+    ∷ engineRequest 1 0 0 0 gets (0 ∷ 7 ∷ [])
+    ∷ engineRequest 1 0 0 0 gets (0x82 ∷ [])
+    -- the record is held; the edge is not permitted; all eight slots are occupied
+    ∷ asks 0x19 0 image gets (0x81 ∷ [])
+    ∷ asks 0x1b 1 image gets (0x85 ∷ [])
+    ∷ asks 0x19 1 image gets (0x82 ∷ [])
+    ∷ asks 0x31 0 [] gets (0 ∷ [])
+    ∷ step 5 gets (0 ∷ 0 ∷ [])
+    ∷ collection 5 (9 ∷ []) gets (0 ∷ 1 ∷ 0 ∷ [])
+    ∷ asks 0x19 1 image gets (0 ∷ 5 ∷ [])
+    ∷ []
+
+pub full-answers : answersFrom start (callsOf full) ≡ givenBy full
+unfolding everything full
+full-answers = refl

@@ -1,0 +1,206 @@
+-- Document 01, "Order of checks: top to bottom, the first that applies.": calls to which two rows of the table of refusals apply, or one
+-- that is just not passed, each tried alone in a state that is handed in. The answers are written out by hand from document 01.
+use mathlib.Core.Path.{_≡_, refl}
+use mathlib.Core.Bool.{Bool, true, false}
+use mathlib.Core.List.{List, [], _∷_, _++_, map}
+use Prim.Native.Nat.{ℕ}
+use lib.ListN.{take, replicate}
+use Rattle.context.specs.declared.Logs.{Logs}
+use Rattle.edges.specs.declared.State.the-variants.{Rtr}
+use Rattle.requests.specs.declared.Psn.the-variants.{NextSend}
+use Rattle.requests.specs.declared.Command.the-variants as on
+use Rattle.requests.specs.declared.Engine.the-variants as engine
+use Rattle.requests.specs.declared.Request.{Request}
+use Rattle.requests.specs.declared.Request.the-variants as request
+use Rattle.slots.specs.Slots.{slot, emptyRow}
+use Rattle.slots.specs.declared.Slot.{Slot}
+use Rattle.slots.specs.declared.Status.{Status}
+use Rattle.slots.specs.declared.Status.the-variants.{Free, Running, Finished}
+use Rattle.rules.specs.World.{World, world, hcaOf}
+use Rattle.rules.specs.Calls.{Call, command, engineRequest, step, collection, resetting, answerOf, worldAfter}
+use Rattle.rules.specs.Scripts.{Line, _gets_, callsOf, givenBy, shown, hcrOf, asks, initMail, image, before, start, everything}
+
+-- a state, and calls that are each tried in it
+pub record Group : Type 0 where
+  pub at : World
+  pub lines : List Line
+
+abbrev pub within : World → List Line → Group
+within w l = record { at = w; lines = l }
+
+unfoldable pub alone : World → List Call → List (List ℕ)
+alone w [] = []
+alone w (c ∷ cs) = shown (answerOf w c) ∷ alone w cs
+
+-- ---- the states
+
+abbrev pub rowed : List Slot → World
+rowed row = world (start .hca) row (start .store) (start .room)
+
+-- open, with these counts and these two slots occupied
+abbrev pub handed : Bool → Logs → Status → Status → World
+handed o g s t = world (hcaOf o g 800) (slot s ∷ slot t ∷ replicate 6 (slot Free)) (start .store) (start .room)
+
+abbrev pub counts : Logs
+counts = record { qps = 1; cqs = 1; eqs = 0; mpts = 0 }
+
+abbrev pub query : ℕ → Request
+query n = request.Command (on.QueryQp (record { 0 = n }))
+
+abbrev pub readState : ℕ → Request
+readState n = request.Engine (engine.ReadState (record { 0 = n }))
+
+abbrev pub write : ℕ → ℕ → Request
+write n psn = request.Engine (engine.Write NextSend (record { 0 = n }) psn Rtr)
+
+-- a command is uncollected, and it writes queue pair 0; a reader of queue pair 0 is running; a read of 4 bytes is finished
+unfoldable pub commanded : World
+commanded = worldAfter start (asks 0x19 0 image)
+
+unfoldable pub reading : World
+reading = worldAfter start (engineRequest 2 0 0 0)
+
+unfoldable pub hasRead : World
+hasRead = worldAfter (worldAfter reading (step 0)) (step 0)
+
+-- ---- 0x83 and 0x87, for each of the five calls: NOP, request 1, step, collection, reset
+
+abbrev pub five : List ℕ → List ℕ → List ℕ → List ℕ → List ℕ → List Line
+five a b c d e =
+    asks 0x31 0 [] gets a ∷ engineRequest 1 0 0 0 gets b ∷ step 0 gets c ∷ collection 0 [] gets d ∷ resetting gets e ∷ []
+
+abbrev pub short : List Line
+short = five (0x83 ∷ []) (0x83 ∷ []) (0x83 ∷ []) (0x83 ∷ []) (0x83 ∷ [])
+
+-- "reset tests only row and room"
+abbrev pub wrongStore : List Line
+wrongStore = five (0x83 ∷ []) (0x83 ∷ []) (0x83 ∷ []) (0x83 ∷ []) (0 ∷ [])
+
+abbrev pub wrongState : List Line
+wrongState = five (0x87 ∷ []) (0x87 ∷ []) (0x87 ∷ []) (0x87 ∷ []) (0 ∷ [])
+
+unfoldable pub handedIn : List Group
+handedIn =
+    within start (five (0 ∷ []) (0 ∷ 0 ∷ []) (0x84 ∷ []) (0x84 ∷ []) (0 ∷ []))
+    ∷ within before (five (0 ∷ []) (4 ∷ []) (0x84 ∷ []) (0x84 ∷ []) (0 ∷ []))
+    -- "row not 8, room below 2,048, or, while open, store length not that of INIT_HCA"
+    ∷ within (rowed (take 7 emptyRow)) short
+    ∷ within (rowed (slot Free ∷ emptyRow)) short
+    ∷ within (world (start .hca) emptyRow (start .store) (replicate 2047 0)) short
+    ∷ within (world (start .hca) emptyRow (0 ∷ start .store) (start .room)) wrongStore
+    ∷ within (world (before .hca) (slot (Running (readState 0) 0) ∷ take 6 emptyRow) (start .store) (start .room)) short
+    -- "closed with an occupied slot"
+    ∷ within (handed false counts (Running (readState 0) 0) Free) wrongState
+    -- "open with counts past their ranges or the store"
+    ∷ within (handed true (record { qps = 0; cqs = 0; eqs = 6; mpts = 0 }) Free Free) wrongState
+    ∷ within (handed true (record { qps = 1; cqs = 1; eqs = 1; mpts = 0 }) Free Free) wrongState
+    -- "a slot's request .. whose .. index, PSN .. would get 2 or 3"
+    ∷ within (handed true counts Free (Running (readState 2) 0)) wrongState
+    ∷ within (handed true counts Free (Running (write 0 0x1000000) 0)) wrongState
+    -- "bursts moved not below (running) or not equal to (finished) its total"
+    ∷ within (handed true counts Free (Running (write 0 0) 2)) wrongState
+    ∷ within (handed true counts Free (Finished (write 0 0) 1)) wrongState
+    -- "two occupied slots with commands"
+    ∷ within (handed true counts (Running (query 0) 0) (Finished (query 1) 16)) wrongState
+    -- "running slots whose holds clash"
+    ∷ within (handed true counts (Running (readState 0) 0) (Running (write 0 0) 0)) wrongState
+    ∷ []
+
+-- ---- the rows below, top to bottom
+
+-- the edge to INIT with a type of 2
+abbrev pub typed2 : List ℕ
+typed2 = 0 ∷ 2 ∷ replicate 162 0
+
+unfoldable pub below87 : List Group
+below87 =
+    -- "HCR below 28" comes before an impossible state, which comes before the rest
+    within (handed false counts (Running (readState 0) 0) Free)
+    (command (replicate 27 0) [] gets (0x83 ∷ [])
+    ∷ command (replicate 28 0) [] gets (0x87 ∷ [])
+    ∷ engineRequest 7 0 0 0 gets (0x87 ∷ [])
+    ∷ step 8 gets (0x87 ∷ [])
+    ∷ collection 8 [] gets (0x87 ∷ [])
+    ∷ [])
+    -- closed: "HCR not well formed", "E is 1", then "not served", then "while closed", and only then the modifiers
+    ∷ within before
+    (command (replicate 27 0) [] gets (0x83 ∷ [])
+    ∷ command (replicate 28 0) [] gets (3 ∷ [])
+    ∷ command (hcrOf true 0x18 0 0) [] gets (3 ∷ [])
+    ∷ asks 0x18 0 [] gets (2 ∷ [])
+    ∷ engineRequest 0 9 0 0 gets (2 ∷ [])
+    ∷ asks 0x08 1 [] gets (4 ∷ [])
+    ∷ engineRequest 1 9 0 0 gets (4 ∷ [])
+    ∷ asks 0x07 1 [] gets (3 ∷ [])
+    ∷ asks 0x07 0 (take 63 initMail) gets (0x83 ∷ [])
+    ∷ asks 0x07 0 (replicate 64 2) gets (3 ∷ [])
+    ∷ asks 0x07 0 (initMail ++ initMail) gets (0 ∷ [])
+    ∷ [])
+    -- a command is uncollected: "INIT_HCA while open" comes before it, the modifiers behind it
+    ∷ within commanded
+    (asks 0x18 0 [] gets (2 ∷ [])
+    ∷ asks 0x07 1 [] gets (4 ∷ [])
+    ∷ asks 0x31 1 [] gets (0x81 ∷ [])
+    ∷ asks 0x19 2 [] gets (0x81 ∷ [])
+    ∷ engineRequest 1 2 0 0 gets (3 ∷ [])
+    ∷ engineRequest 1 0 0 0 gets (0x81 ∷ [])
+    ∷ engineRequest 1 1 0 0 gets (0 ∷ 1 ∷ [])
+    ∷ collection 0 [] gets (0x86 ∷ [])
+    ∷ [])
+    -- a reader is running: its record is held after the mailbox is judged and before the edge; CLOSE_HCA waits for the slot
+    ∷ within reading
+    (asks 0x08 1 [] gets (0x81 ∷ [])
+    ∷ asks 0x31 1 [] gets (3 ∷ [])
+    ∷ asks 0x31 0 [] gets (0 ∷ [])
+    ∷ asks 0x19 0 (take 163 typed2) gets (0x83 ∷ [])
+    ∷ asks 0x19 0 typed2 gets (3 ∷ [])
+    ∷ asks 0x1b 0 image gets (0x81 ∷ [])
+    ∷ asks 0x22 0 [] gets (0 ∷ 1 ∷ [])
+    ∷ collection 0 [] gets (0x86 ∷ [])
+    ∷ step 1 gets (0x84 ∷ [])
+    ∷ [])
+    ∷ within hasRead
+    (collection 0 (9 ∷ 9 ∷ 9 ∷ []) gets (0x83 ∷ [])
+    ∷ collection 0 (9 ∷ 9 ∷ 9 ∷ 9 ∷ []) gets (0 ∷ 4 ∷ 0 ∷ 0 ∷ 0 ∷ 0 ∷ [])
+    ∷ collection 1 [] gets (0x84 ∷ [])
+    ∷ step 0 gets (0x84 ∷ [])
+    ∷ asks 0x08 0 [] gets (0x81 ∷ [])
+    ∷ asks 0x19 0 image gets (0 ∷ 1 ∷ [])
+    ∷ [])
+    -- nothing is under way: the modifiers and numbers before the mailbox's length, that before its content, that before the owner
+    ∷ within start
+    (asks 0x08 1 [] gets (3 ∷ [])
+    ∷ command (hcrOf false 0x31 1 0) [] gets (3 ∷ [])
+    ∷ command (hcrOf false 0x1e 0 0) [] gets (3 ∷ [])
+    ∷ command (hcrOf false 0x1e 3 0) [] gets (0 ∷ 0 ∷ [])
+    ∷ command (hcrOf false 0x21 3 0) [] gets (0x85 ∷ [])
+    ∷ asks 0x19 2 [] gets (3 ∷ [])
+    ∷ asks 0x19 1 typed2 gets (3 ∷ [])
+    ∷ asks 0x16 2 [] gets (3 ∷ [])
+    ∷ asks 0x16 1 (replicate 55 0) gets (0x83 ∷ [])
+    ∷ asks 0x16 1 (replicate 56 0) gets (3 ∷ [])
+    ∷ asks 0x16 0 (replicate 56 0) gets (0 ∷ 0 ∷ [])
+    ∷ asks 0x13 1 [] gets (3 ∷ [])
+    ∷ asks 0x13 0 (replicate 47 0) gets (0x83 ∷ [])
+    ∷ asks 0x13 0 (replicate 48 0) gets (0 ∷ 0 ∷ [])
+    ∷ asks 0x17 0 [] gets (0x85 ∷ [])
+    ∷ asks 0x2c 0 (replicate 7 0) gets (0x83 ∷ [])
+    ∷ asks 0x2c 0 (replicate 8 0) gets (0x85 ∷ [])
+    -- a read does not look at PSN and state
+    ∷ engineRequest 3 2 0 2 gets (3 ∷ [])
+    ∷ engineRequest 3 0 0x1000000 2 gets (3 ∷ [])
+    ∷ engineRequest 3 0 0 7 gets (3 ∷ [])
+    ∷ engineRequest 3 0 0xffffff 6 gets (0x85 ∷ [])
+    ∷ engineRequest 6 0 0x1000000 7 gets (0 ∷ 0 ∷ [])
+    ∷ [])
+    ∷ []
+
+abbrev pub got : List Group → List (List (List ℕ))
+got l = map (λ (g : Group). alone (g .at) (callsOf (g .lines))) l
+
+abbrev pub due : List Group → List (List (List ℕ))
+due l = map (λ (g : Group). givenBy (g .lines)) l
+
+pub ordered : got (handedIn ++ below87) ≡ due (handedIn ++ below87)
+unfolding everything alone commanded reading hasRead handedIn below87
+ordered = refl

@@ -1,0 +1,242 @@
+-- The theorem of demand 3 is not empty. A worked list of calls after an initialisation: every answer, the memory at the end, the
+-- journal and the finished requests, written out by hand from document 01 and computed; and what the theorem says of it.
+use mathlib.Core.Path.{_≡_, refl}
+use mathlib.Core.Bool.{true, false≢true}
+use mathlib.Core.List.{List, [], _∷_, _++_}
+use Prim.Native.Nat.{ℕ}
+use lib.ListN.{take, drop, replicate}
+use Rattle.context.specs.Layout.{recordOf}
+use Rattle.context.specs.Records.{record-same}
+use Rattle.context.specs.declared.Record.the-variants as rec
+use Rattle.edges.specs.declared.State.the-variants.{Rtr, Rts}
+use Rattle.edges.specs.declared.Edge.the-variants.{ResetToInit, InitToRtr, RtrToRts}
+use Rattle.requests.specs.declared.Psn.the-variants.{LastAcked, Expected}
+use Rattle.requests.specs.declared.Owned.the-variants as owned
+use Rattle.requests.specs.declared.Command.the-variants as on
+use Rattle.requests.specs.declared.Engine.the-variants as engine
+use Rattle.requests.specs.declared.Request.{Request}
+use Rattle.requests.specs.declared.Request.the-variants as request
+use Rattle.slots.specs.Slots.{slot}
+use Rattle.slots.specs.declared.Slot.{Slot}
+use Rattle.slots.specs.declared.Status.the-variants.{Free, Running, Finished}
+use Rattle.rules.specs.World.{world, hcaOf}
+use Rattle.rules.specs.Book.{onRecord, nop, numberOf, replyOf}
+use Rattle.rules.specs.Calls.{engineRequest, step, collection, initialises}
+use Rattle.rules.specs.Demand3.{Entry, turnedAway, answered, inSlot, runFrom, Run, Done, done, finishedIn, given, bookOf, Demand3}
+use Rattle.rules.specs.Theorems.{demand3}
+use Rattle.rules.specs.Scripts.{Line, _gets_, callsOf, givenBy, answersFrom, allSteps, upFrom, asks, initMail, image, before, initHcr, start, everything}
+
+-- ---- The mailboxes: of the edge to RTR; of SW2HW_CQ, with the index 1 in word 2Ch; of RESIZE_CQ
+
+unfoldable pub image′ : List ℕ
+image′ = replicate 164 0xb2
+
+unfoldable pub cq : List ℕ
+cq = replicate 44 0xc1 ++ (0 ∷ 0 ∷ 0 ∷ 1 ∷ replicate 8 0xc2)
+
+unfoldable pub resize : List ℕ
+resize = 0xa0 ∷ 0xa1 ∷ 0xa2 ∷ 0xa3 ∷ 0xa4 ∷ 0xa5 ∷ 0xa6 ∷ 0xa7 ∷ []
+
+-- ---- The calls and their answers
+
+unfoldable pub lines : List Line
+lines =
+    -- no engine request has this number; the queue pair is in RESET, so RTR to RTS is not permitted; RESET to INIT is
+    engineRequest 7 0 0 0 gets (2 ∷ [])
+    ∷ asks 0x1b 0 image gets (0x85 ∷ [])
+    ∷ asks 0x19 0 image gets (0 ∷ 0 ∷ [])
+    -- it holds its record; the other queue pair is free; one command is uncollected
+    ∷ engineRequest 1 0 0 0 gets (0x81 ∷ [])
+    ∷ engineRequest 1 1 0 0 gets (0 ∷ 1 ∷ [])
+    ∷ asks 0x31 0 [] gets (0x81 ∷ [])
+    ∷ allSteps 0 16
+    ++ step 0 gets (0x84 ∷ [])
+    ∷ asks 0x31 0 [] gets (0x81 ∷ [])
+    ∷ collection 0 [] gets (0 ∷ 0 ∷ [])
+    ∷ asks 0x31 0 [] gets (0 ∷ [])
+    -- INIT to RTR
+    ∷ asks 0x1a 0 image′ gets (0 ∷ 0 ∷ [])
+    ∷ allSteps 0 16
+    ++ collection 0 [] gets (0 ∷ 0 ∷ [])
+    -- two readers of one record; a writer waits for both to finish, and not for their collection
+    ∷ engineRequest 2 0 0 0 gets (0 ∷ 0 ∷ [])
+    ∷ engineRequest 1 0 0 0 gets (0 ∷ 2 ∷ [])
+    ∷ step 0 gets (0 ∷ 1 ∷ [])
+    ∷ step 2 gets (0 ∷ 0 ∷ [])
+    ∷ engineRequest 5 0 0x20 2 gets (0x81 ∷ [])
+    ∷ step 0 gets (0 ∷ 0 ∷ [])
+    ∷ engineRequest 5 0 0x20 2 gets (0 ∷ 3 ∷ [])
+    -- state, then the PSN; the rest of the buffer stays
+    ∷ collection 0 (9 ∷ 9 ∷ 9 ∷ 9 ∷ 9 ∷ []) gets (0 ∷ 4 ∷ 2 ∷ 0x6d ∷ 0x6e ∷ 0x6f ∷ 9 ∷ [])
+    -- half written: held against a reader, and against a write that no state of the record permits
+    ∷ step 3 gets (0 ∷ 1 ∷ [])
+    ∷ collection 3 [] gets (0x86 ∷ [])
+    ∷ engineRequest 1 0 0 0 gets (0x81 ∷ [])
+    ∷ engineRequest 3 0 0 0 gets (0x81 ∷ [])
+    ∷ step 3 gets (0 ∷ 0 ∷ [])
+    -- RTR to RTS is no engine write
+    ∷ engineRequest 4 0 0x30 3 gets (0x85 ∷ [])
+    -- slots 1, 2 and 3 are occupied
+    ∷ asks 0x08 0 [] gets (0x81 ∷ [])
+    ∷ step 8 gets (0x84 ∷ [])
+    ∷ collection 4 [] gets (0x84 ∷ [])
+    -- a completion queue is handed over, then resized: the first of four bursts
+    ∷ asks 0x16 1 cq gets (0 ∷ 0 ∷ [])
+    ∷ allSteps 0 4
+    ++ collection 0 [] gets (0 ∷ 0 ∷ [])
+    ∷ asks 0x2c 1 resize gets (0 ∷ 0 ∷ [])
+    ∷ step 0 gets (0 ∷ 3 ∷ [])
+    ∷ []
+
+pub answers : answersFrom start (callsOf lines) ≡ givenBy lines
+unfolding everything lines image′ cq resize
+answers = refl
+
+-- ---- What is left
+
+unfoldable pub end : Run
+end = runFrom start [] (callsOf lines)
+
+-- the requests that were made
+abbrev pub toRts : Request
+toRts = request.Command (on.ModifyQp RtrToRts (record { 0 = 0 }))
+
+abbrev pub toInit : Request
+toInit = request.Command (on.ModifyQp ResetToInit (record { 0 = 0 }))
+
+abbrev pub toRtr : Request
+toRtr = request.Command (on.ModifyQp InitToRtr (record { 0 = 0 }))
+
+abbrev pub readState : ℕ → Request
+readState n = request.Engine (engine.ReadState (record { 0 = n }))
+
+abbrev pub readNext : Request
+readNext = request.Engine (engine.ReadNext (record { 0 = 0 }))
+
+abbrev pub writeExpected : Request
+writeExpected = request.Engine (engine.Write Expected (record { 0 = 0 }) 0x20 Rtr)
+
+abbrev pub writeAcked : Request
+writeAcked = request.Engine (engine.Write LastAcked (record { 0 = 0 }) 0x30 Rts)
+
+abbrev pub ownCq : Request
+ownCq = request.Command (on.Sw2Hw (owned.Cq (record { 0 = 1 })))
+
+abbrev pub resizeCq : Request
+resizeCq = request.Command (on.ResizeCq (record { 0 = 1 }))
+
+-- the slots: request and bursts moved
+unfoldable pub row : List Slot
+row =
+    slot (Running resizeCq 1)
+    ∷ slot (Running (readState 1) 0)
+    ∷ slot (Finished (readState 0) 1)
+    ∷ slot (Finished writeExpected 2)
+    ∷ slot Free
+    ∷ slot Free
+    ∷ slot Free
+    ∷ slot Free
+    ∷ []
+
+-- queue pair 0: its state is RTR; words 04h to 4Ch and word 84h are those of the second image, but for the PSN; from A4h on it is as
+-- INIT_HCA left it. Completion queue 1: byte 0Ch is new, word 18h not yet. Behind the tables nothing has changed.
+unfoldable pub store : List ℕ
+store =
+    (0x25 ∷ upFrom 1 3)
+    ++ replicate 76 0xb2
+    ++ upFrom 0x50 52
+    ++ (0xb2 ∷ 0 ∷ 0 ∷ 0x20 ∷ upFrom 0x88 28)
+    ++ replicate 92 0
+    ++ replicate 256 0
+    ++ replicate 64 0
+    ++ (replicate 12 0xc1 ++ (0xa0 ∷ replicate 31 0xc1) ++ (0 ∷ 0 ∷ 0 ∷ 1 ∷ replicate 8 0xc2) ++ (replicate 7 0 ++ (1 ∷ [])))
+    ++ replicate 128 0
+    ++ replicate 32 0xee
+
+-- slot 0's part has its last mailbox at the front and, behind it, what is left of those before and of the PSN's burst, which was copied
+-- to its offset, 60h; slot 2's part has the state's burst; an engine's write puts nothing into the room
+unfoldable pub room : List ℕ
+room =
+    resize
+    ++ replicate 36 0xc1
+    ++ (0 ∷ 0 ∷ 0 ∷ 1 ∷ replicate 8 0xc2)
+    ++ replicate 40 0xb2
+    ++ upFrom 0x60 16
+    ++ replicate 52 0xb2
+    ++ replicate 92 0xdd
+    ++ replicate 256 0xdd
+    ++ (0x25 ∷ 1 ∷ 2 ∷ 3 ∷ replicate 12 0xb2)
+    ++ replicate 240 0xdd
+    ++ replicate 1282 0xdd
+
+pub left : end .world ≡ world (hcaOf true (record { qps = 1; cqs = 1; eqs = 0; mpts = 0 }) 800) row store room
+unfolding everything lines image′ cq resize end row store room
+left = refl
+
+-- ---- The journal, and the requests that are finished
+
+unfoldable pub journal : List Entry
+journal =
+    turnedAway (onRecord toRts image) 0x85
+    ∷ answered (onRecord toInit image) []
+    ∷ inSlot (onRecord (readState 1) []) 1
+    ∷ answered nop []
+    ∷ answered (onRecord toRtr image′) []
+    ∷ answered (onRecord readNext []) (2 ∷ 0x6d ∷ 0x6e ∷ 0x6f ∷ [])
+    ∷ inSlot (onRecord (readState 0) []) 2
+    ∷ inSlot (onRecord writeExpected []) 3
+    ∷ turnedAway (onRecord writeAcked []) 0x85
+    ∷ answered (onRecord ownCq cq) []
+    ∷ inSlot (onRecord resizeCq resize) 0
+    ∷ []
+
+pub journal-is : end .journal ≡ journal
+unfolding everything lines image′ cq resize end journal
+journal-is = refl
+
+-- two of them are not collected; the resizing and the read of queue pair 1 are not finished
+unfoldable pub finished : List Done
+finished =
+    done (onRecord toInit image) []
+    ∷ done nop []
+    ∷ done (onRecord toRtr image′) []
+    ∷ done (onRecord readNext []) (2 ∷ 0x6d ∷ 0x6e ∷ 0x6f ∷ [])
+    ∷ done (onRecord (readState 0) []) (2 ∷ [])
+    ∷ done (onRecord writeExpected []) []
+    ∷ done (onRecord ownCq cq) []
+    ∷ []
+
+pub finished-is : finishedIn (end .world) (end .journal) ≡ finished
+unfolding everything lines image′ cq resize end finished
+finished-is = refl
+
+-- ---- What the theorem says of it
+
+pub initialises-it : initialises before initHcr initMail ≡ true
+unfolding everything
+initialises-it = refl
+
+pub demanded : Demand3 (bookOf start) (end .world) (end .journal)
+unfolding start end
+demanded = demand3 before initHcr initMail initialises-it (callsOf lines)
+
+-- and so, of the read of the next PSN, given to the book after the three requests that were accepted before it:
+pub reads : (numberOf (onRecord readNext []) (given (bookOf start) (take 3 finished)) ≡ 0)
+    × (replyOf (onRecord readNext []) (given (bookOf start) (take 3 finished)) ≡ 2 ∷ 0x6d ∷ 0x6e ∷ 0x6f ∷ [])
+unfolding finished
+reads =
+    let d : Done = done (onRecord readNext []) (2 ∷ 0x6d ∷ 0x6e ∷ 0x6f ∷ []) in
+    (demanded .accepts (take 3 finished) (drop 4 finished) d finished-is, demanded .answers (take 3 finished) (drop 4 finished) d finished-is)
+
+-- of the write that is refused for the record's state, after six:
+pub refuses : numberOf (onRecord writeAcked []) (given (bookOf start) (finishedIn (end .world) (take 8 journal))) ≡ 0x85
+unfolding journal
+refuses = demanded .refusals (take 8 journal) (drop 9 journal) (onRecord writeAcked []) 0x85 journal-is
+
+-- of queue pair 0, which nobody is writing:
+pub keeps : recordOf (end .world .hca .logs) (rec.Qp (record { 0 = 0 })) (end .world .store)
+    ≡ given (bookOf start) (finishedIn (end .world) (end .journal)) .bytes (rec.Qp (record { 0 = 0 }))
+unfolding everything lines image′ cq resize end
+keeps =
+    demanded .records (rec.Qp (record { 0 = 0 })) refl
+    ((λ x. absurd (false≢true (x .0))), (tt, (tt, ((λ x. absurd (false≢true (record-same _ _ (x .1)))), tt))))
