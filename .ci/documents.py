@@ -40,7 +40,9 @@ def main():
         for name in names.split(","):
             name = name.strip()
             word = name.split(".")[-1].split("::")[-1]
-            if not re.search(r"(?<![\w-])" + re.escape(word) + r"(?![\w-])", texts[crate]):
+            # A definition begins its line: a name in a comment or in a use does not count.
+            words = r"^\s*(?:(?:pub|abbrev|unfoldable|record|data|fn|enum|struct)\s+)*"
+            if not re.search(words + re.escape(word) + r"(?![\w-])", texts[crate], re.M):
                 wrong.append(f"docs/CLAIMS.md names {name} of {crate}, which has no such name")
     for line in wrong:
         print(line, file=sys.stderr)
