@@ -1,0 +1,53 @@
+-- `whole_effects::reference::take` meets its contract.
+use mathlib.Core.Path.{_≡_}
+use Prim.Native.Nat.{_+_, _-_}
+use borrow.Author.Needs.{needs}
+use native.Mathlib.Omega.{arith}
+use lib.ListN.{length, length-set}
+use Rattle.whole_effects.proofs.reference.take.Statement.{statement}
+use Rattle.whole_effects.proofs.reference.take.Tie as tie
+
+abbrev Inv-loop : tie.InvT-loop
+Inv-loop record₀ image first last end w₀ «record» w = length «record» ≡ length record₀
+
+abbrev μ-loop : tie.MeasureT-loop
+μ-loop record₀ image first last end w₀ «record» w = end + 4 - w
+
+loop-holds : tie.Need-loop-holds Inv-loop μ-loop
+loop-holds c = search needs
+
+word-requires : tie.Need-word-requires Inv-loop μ-loop
+word-requires c κs = search needs
+
+put-word-requires : tie.Need-put-word-requires Inv-loop μ-loop
+put-word-requires c κs = search needs
+
+add-w : tie.Need-add-w Inv-loop μ-loop
+add-w c = search needs
+
+loop-less : tie.Need-loop-less Inv-loop μ-loop
+loop-less c = search needs
+
+loop-again : tie.Need-loop-again Inv-loop μ-loop
+loop-again c = search needs
+
+same-length : tie.Need-same-length Inv-loop μ-loop
+same-length c = search needs
+
+returns : tie.Need-returns Inv-loop μ-loop
+returns c = search needs
+
+pub take-spec : {M : Type 1} → statement M
+take-spec =
+    tie.close
+    (tie.spec
+    Inv-loop
+    μ-loop
+    loop-holds
+    word-requires
+    put-word-requires
+    add-w
+    loop-less
+    loop-again
+    same-length
+    returns)
