@@ -1,14 +1,14 @@
 -- Logarithms within their ranges give counts and starts that no sum of the code wraps.
-use mathlib.Core.Path.{_≡_, refl, sym, _∙_, ap}
-use mathlib.Core.Bool.{Bool, true, false}
-use Prim.Native.Nat.{ℕ, _+_, _*_, _%_, _^_, _≤_, _<_}
-use native.Mathlib.Nat.{one-mul, mod-eq-of-lt, lt-of-lt-of-le, le-of-lt}
+use mathlib.Core.Path.{_≡_, sym, _∙_, ap}
+use mathlib.Core.Bool.{true}
+use Prim.Native.Nat.{ℕ, _*_, _%_, _^_, _≤_, _<_}
+use native.Mathlib.Nat.{one-mul, mod-eq-of-lt, lt-of-lt-of-le}
 use native.Mathlib.Omega.{arith}
 use borrow.Author.Tests.{leb-true, lt-ltb}
-use lib.Dec.{ltb, leb, lit<}
+use lib.Dec.{ltb, leb}
 use lib.Pow.{pow-lt, pow-mono}
 use Rattle.words.specs.Choice.{both, both-left, both-right}
-use Rattle.context.specs.Layout.{logOf, countOf, startOf, inUse, sizeOf, kindOf, numberOf, isRecord, recordAt, greatestLog, rangesHold}
+use Rattle.context.specs.Layout.{startOf, inUse, rangesHold}
 use Rattle.context.specs.declared.Kind.{Kind}
 use Rattle.context.specs.declared.Kind.the-variants as kind
 use Rattle.context.specs.declared.Logs.{Logs}

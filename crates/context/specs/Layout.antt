@@ -1,10 +1,9 @@
 -- Document 01, "The context store": the four tables, their sizes and counts, and where each record starts.
-use mathlib.Core.Path.{_≡_}
-use mathlib.Core.Bool.{Bool, true, false}
+use mathlib.Core.Bool.{Bool}
 use mathlib.Core.List.{List}
-use Prim.Native.Nat.{ℕ, _+_, _*_, _^_, _<_}
+use Prim.Native.Nat.{ℕ, _+_, _*_, _^_}
 use lib.Dec.{ltb, leb, eqb}
-use Rattle.words.specs.Choice.{pick, both}
+use Rattle.words.specs.Choice.{both}
 use Rattle.words.specs.Parts.{part}
 use Rattle.context.specs.declared.Kind.{Kind}
 use Rattle.context.specs.declared.Kind.the-variants as kind

@@ -1,5 +1,4 @@
 -- Document 01, "Commands": from op, op_modifier and in_modifier to the command.
-use mathlib.Core.List.{List}
 use Prim.Native.Nat.{ℕ}
 use lib.Dec.{eqb}
 use Rattle.words.specs.Choice.{pick}

@@ -7,7 +7,6 @@ use Rattle.context.specs.declared.Logs.{Logs}
 use Rattle.context.specs.declared.QpNumber.{QpNumber}
 use Rattle.context.specs.declared.QpFound.{QpFound}
 use Rattle.context.specs.declared.QpFound.the-variants as qpFound
-use Rattle.edges.specs.declared.State.{State as QpState}
 use Rattle.edges.specs.declared.State.the-variants.{Reset, Init, Rtr, Rts, Sqe, Sqd, Err}
 use Rattle.requests.specs.declared.Psn.{Psn}
 use Rattle.requests.specs.declared.Psn.the-variants.{NextSend, LastAcked, Expected}

@@ -1,7 +1,6 @@
 -- Which record a request touches, whether it reads or writes it, and which numbers its submission accepts.
 use mathlib.Core.Bool.{Bool, true, false}
 use mathlib.Core.List.{List, [], _∷_}
-use Prim.Native.Nat.{ℕ}
 use lib.Dec.{leb}
 use Rattle.words.specs.Choice.{both}
 use Rattle.context.specs.Layout.{isRecord}
