@@ -1,11 +1,10 @@
 // The context store: four tables of records, one behind the other, in lent memory.
 ghost use mathlib.Core.Path.{_≡_};
 ghost use mathlib.Core.Bool.{true};
-ghost use Prim.Native.Nat.{_+_, _*_, _^_, _≤_, _<_};
+ghost use Prim.Native.Nat.{_^_, _≤_};
 ghost use lib.Dec.{ltb};
-ghost use lib.ListN.{length};
-ghost use Rattle.context.specs.Layout.{sizeOf, kindOf, numberOf, logOf, countOf, startOf, inUse, rangesHold, fitsStore, isRecord, recordAt, recordSize, kindCode, sameRecord};
-ghost use Rattle.context.specs.Init.{logsOf, initOf};
+ghost use Rattle.context.specs.Layout.{sizeOf, kindOf, numberOf, logOf, startOf, inUse, rangesHold, fitsStore, isRecord, recordAt, recordSize, kindCode, sameRecord};
+ghost use Rattle.context.specs.Init.{initOf};
 ghost use Rattle.context.specs.Numbers.{qpOf, cqOf, eqOf, mptOf};
 
 // Numbers of the four kinds of record are kept apart: each has a type of its own. One is made by

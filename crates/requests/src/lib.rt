@@ -12,7 +12,7 @@ use context::QpNumber;
 use edges::Edge;
 use edges::State;
 ghost use mathlib.Core.Path.{_≡_};
-ghost use Rattle.context.specs.Numbers.{qpOf, cqOf, eqOf, mptOf};
+ghost use Rattle.context.specs.Numbers.{cqOf, eqOf, mptOf};
 ghost use Rattle.requests.specs.Commands.{opOf, edgeModifier, opModifierOf, onMpt, onEq, onCq, ownedOf, atOnce, sw2hwOf, hw2swOf, resizeOf, queryOf, modifyOf, addressed, commandOf};
 ghost use Rattle.requests.specs.Engines.{numberOf, stateFrom, engineWriteOf, engineOn, engineOf};
 

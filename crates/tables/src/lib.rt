@@ -9,7 +9,7 @@ use requests::Owned;
 use requests::Psn;
 use requests::Request;
 ghost use mathlib.Core.Path.{_≡_};
-ghost use Prim.Native.Nat.{_+_, _*_, _≤_, _<_};
+ghost use Prim.Native.Nat.{_*_, _<_};
 ghost use Rattle.tables.specs.Records.{ownedRecord, commandRecord, engineRecord, recordOf, recordsOf, commandWrites, engineWrites, writesOf, isCommand, psnHolds, numbersHold};
 ghost use Rattle.tables.specs.Mailboxes.{storedOf, edgeNeed, commandNeed, needOf};
 ghost use Rattle.tables.specs.Bursts.{burstSize, psnPlace, commandTotal, engineTotal, totalOf, psnOffset, engineOffset, commandOffset, offsetOf};
