@@ -9,18 +9,19 @@ use Rattle.context.specs.declared.Logs.{Logs}
 use Rattle.context.specs.declared.Init.{Init}
 use Rattle.context.specs.declared.Init.the-variants.{Layout, ShortMailbox, OutOfRange}
 
--- "QPs in byte 0Fh, CQs 17h, EQs 1Fh, MPTs 37h"
+-- "QPs in byte 0Fh .., CQs 17h .., EQs 1Fh .., MPTs 37h"
 unfoldable pub logsOf : List ℕ → Logs
 logsOf mailbox = record { qps = getD mailbox 0x0f 0; cqs = getD mailbox 0x17 0; eqs = getD mailbox 0x1f 0; mpts = getD mailbox 0x37 0 }
 
 -- "INIT_HCA (mailbox 64 bytes)"; "mailbox shorter than needed", then "INIT_HCA out of range or larger than the store"
-unfoldable pub initOf : List ℕ → ℕ → Init
-initOf mailbox store =
-    pick (ltb (length mailbox) 64) ShortMailbox
-    (pick (fitsStore (logsOf mailbox) store) (Layout (logsOf mailbox))
-    OutOfRange)
+unfoldable pub initRows : {A : Type 0} → List ℕ → ℕ → A → A → A → A
+initRows mailbox store short out-of-range layout =
+    pick (ltb (length mailbox) 64) short (pick (fitsStore (logsOf mailbox) store) layout out-of-range)
 
--- 01's number for each answer
+unfoldable pub initOf : List ℕ → ℕ → Init
+initOf mailbox store = initRows mailbox store ShortMailbox OutOfRange (Layout (logsOf mailbox))
+
+-- Document 01's number for each answer
 abbrev pub initNumber : Init → ℕ
 initNumber (Layout g) = 0
 initNumber ShortMailbox = 0x83

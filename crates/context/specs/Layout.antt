@@ -18,7 +18,7 @@ sizeOf kind.Cq = 64
 sizeOf kind.Eq = 64
 sizeOf kind.Mpt = 64
 
--- "the logarithms of the counts: QPs (0 to 14), CQs (0 to 14), EQs (0 to 5), MPTs (0 to 16)"
+-- "the logarithms of the counts: QPs .. (0 to 14), CQs .. (0 to 14), EQs .. (0 to 5), MPTs .. (0 to 16)"
 abbrev pub logOf : Logs → Kind → ℕ
 logOf g kind.Qp = g .qps
 logOf g kind.Cq = g .cqs

@@ -30,5 +30,6 @@ uc = 1
 abbrev pub ud : ℕ
 ud = 3
 
+-- "0x19 accepts types 0, 1 and 3 only."
 unfoldable pub isService : ℕ → Bool
 isService t = either (eqb t rc) (either (eqb t uc) (eqb t ud))

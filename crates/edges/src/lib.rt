@@ -1,7 +1,8 @@
 // Which moves of a queue pair's state are permitted: by a command's edge, and by an engine write.
 ghost use mathlib.Core.Path.{_≡_};
+ghost use Rattle.words.specs.Choice.{pick};
 ghost use Rattle.edges.specs.States.{stateCode, isService};
-ghost use Rattle.edges.specs.Edges.{toOf, fromOf, permitsEdge, isActive, isSending, writeKeeps, writeFails, writeStops, permitsWrite, permits, judgeOf};
+ghost use Rattle.edges.specs.Edges.{toOf, fromOf, permitsEdge, isActive, isSending, writeKeeps, writeFails, writeStops, permitsWrite, permits, judgeOf, verdictNumber};
 
 pub enum State {
     Reset,
@@ -85,7 +86,7 @@ pub fn is_service(service: u8) -> bool
     service == 3
 }
 
-// Whether an edge starts at the state with this code, which is at most 6.
+// Whether an edge starts at the state with this code.
 fn starts_at(edge: Edge, code: u8) -> bool
     ensures { λ r. ⌜ r ≡ fromOf edge code ⌝ }
 {
@@ -192,7 +193,7 @@ fn permitted(asked: Move, code: u8, service: u8) -> bool
 
 // The decision, from the record's state code and service type.
 pub fn judge(asked: Move, code: u8, service: u8) -> Verdict
-    ensures { λ r. ⌜ r ≡ judgeOf asked code service ⌝ }
+    ensures { λ r. ⌜ (r ≡ judgeOf asked code service) × (verdictNumber r ≡ pick (permits asked code service) 0 0x85) ⌝ }
 {
     if permitted(asked, code, service) {
         return Verdict::Permitted;

@@ -9,7 +9,7 @@ use Rattle.words.specs.Words.{bits, leValue, le32, leBytes, beValue, be32, beBy
 use Rattle.hcr.specs.Register.{paramAt, commandOf, wellFormed18, wellFormed, readRows, readOf, readNumber}
 use Rattle.hcr.specs.declared.ReadAnswer.{ReadAnswer}
 use Rattle.hcr.specs.declared.ReadAnswer.the-variants as hcr
-use Rattle.context.specs.Init.{logsOf, initOf, initNumber}
+use Rattle.context.specs.Init.{logsOf, initRows, initOf, initNumber}
 use Rattle.context.specs.Layout.{inUse, rangesHold, fitsStore, recordAt}
 use Rattle.context.specs.declared.Logs.{Logs}
 use Rattle.context.specs.declared.Record.the-variants as rec
@@ -94,5 +94,5 @@ table =
 
 -- the single statement
 pub agree : map (λ (r : Row). r .found) table ≡ map (λ (r : Row). r .given) table
-unfolding table logs logsOf initOf fitsStore rangesHold recordAt readOf readRows wellFormed wellFormed18 commandOf paramAt bits le32 leValue leBytes be32 beValue beBytes judgeOf permitsWrite writeKeeps writeFails writeStops isActive isSending mapFrom writeByte withState psnByte setState setPsn part splice
+unfolding table logs logsOf initRows initOf fitsStore rangesHold recordAt readOf readRows wellFormed wellFormed18 commandOf paramAt bits le32 leValue leBytes be32 beValue beBytes judgeOf permitsWrite writeKeeps writeFails writeStops isActive isSending mapFrom writeByte withState psnByte setState setPsn part splice
 agree = refl

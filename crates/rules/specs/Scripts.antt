@@ -7,7 +7,7 @@ use Rattle.words.specs.Maps.{mapFrom}
 use Rattle.words.specs.Parts.{part, splice}
 use Rattle.words.specs.Words.{bits, leValue, le32, leBytes, beValue, be32, beBytes}
 use Rattle.hcr.specs.Register.{paramAt, commandOf, wellFormed18, wellFormed, readRows, readOf, word18, leWords, wordsOf, registerOf}
-use Rattle.context.specs.Init.{logsOf, initOf}
+use Rattle.context.specs.Init.{logsOf, initRows, initOf}
 use Rattle.context.specs.Layout.{rangesHold, fitsStore, isRecord, recordAt, recordOf, sameRecord}
 use Rattle.edges.specs.States.{isService}
 use Rattle.edges.specs.Edges.{permitsEdge, isActive, writeKeeps, writeFails, isSending, writeStops, permitsWrite, judgeOf}
@@ -115,7 +115,7 @@ start = submitCommand before initHcr initMail .world
 -- ---- Every definition that a call computes with, by one name: a proof by computation unfolds it.
 
 unfoldable pub below : Unit {0}
-unfolding part splice mapFrom bits leValue le32 leBytes beValue be32 beBytes paramAt commandOf wellFormed18 wellFormed readRows readOf word18 leWords wordsOf registerOf logsOf initOf rangesHold fitsStore isRecord recordAt recordOf sameRecord isService permitsEdge isActive writeKeeps writeFails isSending writeStops permitsWrite judgeOf opOf askedOf numberOf stateFrom engineOf numbersHold stateOf serviceOf isHardware stateAnswer nextAnswer wholeAnswer withState takenByte edgeByte sw2hwByte resizeByte psnByte writeByte writtenPart writeAt copyAt anySlot anyRest lowestFree clashRecords heldAgainst commandBefore twoCommands holdsClash openImpossible impossible
+unfolding part splice mapFrom bits leValue le32 leBytes beValue be32 beBytes paramAt commandOf wellFormed18 wellFormed readRows readOf word18 leWords wordsOf registerOf logsOf initRows initOf rangesHold fitsStore isRecord recordAt recordOf sameRecord isService permitsEdge isActive writeKeeps writeFails isSending writeStops permitsWrite judgeOf opOf askedOf numberOf stateFrom engineOf numbersHold stateOf serviceOf isHardware stateAnswer nextAnswer wholeAnswer withState takenByte edgeByte sw2hwByte resizeByte psnByte writeByte writtenPart writeAt copyAt anySlot anyRest lowestFree clashRecords heldAgainst commandBefore twoCommands holdsClash openImpossible impossible
 below = tt
 
 unfoldable pub everything : Unit {0}

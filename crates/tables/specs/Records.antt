@@ -16,11 +16,13 @@ use Rattle.requests.specs.declared.Engine.the-variants as engine
 use Rattle.requests.specs.declared.Request.{Request}
 use Rattle.requests.specs.declared.Request.the-variants as request
 
+-- "SW2HW for MPT 0xd, EQ 0x13, CQ 0x16: in_modifier is the index"; "HW2SW 0xf, 0x14, 0x17"
 abbrev pub ownedRecord : Owned → Record
 ownedRecord (owned.Mpt n) = rec.Mpt n
 ownedRecord (owned.Eq n) = rec.Eq n
 ownedRecord (owned.Cq n) = rec.Cq n
 
+-- "in_modifier is the record's number"; "Edges, in_modifier the QP number."
 abbrev pub commandRecord : Command → Record
 commandRecord (command.Sw2Hw o) = ownedRecord o
 commandRecord (command.Hw2Sw o) = ownedRecord o

@@ -1,13 +1,13 @@
 -- `context::read_init` meets its contract.
 use Rattle.words.specs.Choice.{cases}
-use Rattle.context.specs.Init.{initOf, logsOf}
+use Rattle.context.specs.Init.{initRows, initOf, logsOf}
 use borrow.Author.Needs.{needs}
 use Rattle.context.proofs.read_init.Statement.{statement}
 use Rattle.context.proofs.read_init.Tie as tie
 
 returns : tie.Need-returns
-unfolding initOf logsOf
-returns c = search cases depth 8
+unfolding initRows initOf logsOf
+returns c = (search cases depth 8, search cases depth 8)
 
 shared-slice-read-t7 : tie.Need-shared-slice-read-t7
 shared-slice-read-t7 c = search needs
@@ -25,12 +25,12 @@ fits-store-requires : tie.Need-fits-store-requires
 fits-store-requires c κs = search needs
 
 returns-2 : tie.Need-returns-2
-unfolding initOf logsOf
-returns-2 c = search cases depth 8
+unfolding initRows initOf logsOf
+returns-2 c = (search cases depth 8, search cases depth 8)
 
 returns-3 : tie.Need-returns-3
-unfolding initOf logsOf
-returns-3 c = search cases depth 8
+unfolding initRows initOf logsOf
+returns-3 c = (search cases depth 8, search cases depth 8)
 
 pub read-init-spec : {M : Type 1} → statement M
 read-init-spec =

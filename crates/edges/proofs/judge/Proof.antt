@@ -11,11 +11,11 @@ permitted-requires c κs = search needs
 
 returns : tie.Need-returns
 unfolding judgeOf
-returns c = search (cases, not-true, not-false) depth 8
+returns c = (search (cases, not-true, not-false) depth 8, search (cases, not-true, not-false) depth 8)
 
 returns-2 : tie.Need-returns-2
 unfolding judgeOf
-returns-2 c = search (cases, not-true, not-false) depth 8
+returns-2 c = (search (cases, not-true, not-false) depth 8, search (cases, not-true, not-false) depth 8)
 
 pub judge-spec : {M : Type 1} → statement M
 judge-spec = tie.close (tie.spec permitted-requires returns returns-2)

@@ -13,7 +13,7 @@ judge-requires : tie.Need-judge-requires
 judge-requires c κs = search needs
 
 returns : tie.Need-returns
-returns c = rw (← c .before .before .state-code .ensures, ← c .before .service .ensures) (c .judge .ensures)
+returns c = rw (← c .before .before .state-code .ensures, ← c .before .service .ensures) (c .judge .ensures .0)
 
 pub move-permitted-spec : {M : Type 1} → statement M
 move-permitted-spec =
