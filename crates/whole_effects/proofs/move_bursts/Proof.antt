@@ -1,23 +1,37 @@
 -- `whole_effects::move_bursts` meets its contract.
 use mathlib.Core.Path.{_≡_}
-use Prim.Native.Nat.{_+_, _-_}
+use Prim.Native.Nat.{_+_, _-_, _≤_}
 use borrow.Author.Needs.{needs}
 use native.Mathlib.Omega.{arith}
 use lib.ListN.{length, length-set}
+use Rattle.tables.specs.Mailboxes.{needOf}
+use Rattle.tables.specs.Bursts.{totalOf}
 use Rattle.whole_effects.proofs.move_bursts.Statement.{statement}
 use Rattle.whole_effects.proofs.move_bursts.Tie as tie
 
 abbrev Inv-loop : tie.InvT-loop
-Inv-loop store₀ request room total m₀ store m = (length store ≡ length store₀) × (length room ≡ 2048)
+Inv-loop store₀ room request total m₀ store m = (length store ≡ length store₀) × (512 ≤ length store₀) × (512 ≤ length room) × (needOf request ≤ 256) × (total ≡ totalOf request)
 
 abbrev μ-loop : tie.MeasureT-loop
-μ-loop store₀ request room total m₀ store m = total - m
+μ-loop store₀ room request total m₀ store m = total - m
 
-slice-aggregate-fill-room : tie.Need-slice-aggregate-fill-room Inv-loop μ-loop
-slice-aggregate-fill-room c = search needs
+add-if1 : tie.Need-add-if1 Inv-loop μ-loop
+add-if1 c = search needs
 
-fill-room-requires : tie.Need-fill-room-requires Inv-loop μ-loop
-fill-room-requires c κs = search needs
+returns : tie.Need-returns Inv-loop μ-loop
+returns c = search needs
+
+add-if2 : tie.Need-add-if2 Inv-loop μ-loop
+add-if2 c = search needs
+
+returns-2 : tie.Need-returns-2 Inv-loop μ-loop
+returns-2 c = search needs
+
+need-requires : tie.Need-need-requires Inv-loop μ-loop
+need-requires c κs = search needs
+
+returns-3 : tie.Need-returns-3 Inv-loop μ-loop
+returns-3 c = search needs
 
 total-requires : tie.Need-total-requires Inv-loop μ-loop
 total-requires c κs = search needs
@@ -25,11 +39,20 @@ total-requires c κs = search needs
 loop-holds : tie.Need-loop-holds Inv-loop μ-loop
 loop-holds c = search needs
 
-slice-aggregate-move-burst : tie.Need-slice-aggregate-move-burst Inv-loop μ-loop
-slice-aggregate-move-burst c = search needs
+offset-requires : tie.Need-offset-requires Inv-loop μ-loop
+offset-requires c κs = search needs
 
-move-burst-requires : tie.Need-move-burst-requires Inv-loop μ-loop
-move-burst-requires c κs = search needs
+same-length : tie.Need-same-length Inv-loop μ-loop
+same-length c = search needs
+
+returns-4 : tie.Need-returns-4 Inv-loop μ-loop
+returns-4 c = search needs
+
+add-write-at : tie.Need-add-write-at Inv-loop μ-loop
+add-write-at c = search needs
+
+write-at-requires : tie.Need-write-at-requires Inv-loop μ-loop
+write-at-requires c κs = search needs
 
 add-m : tie.Need-add-m Inv-loop μ-loop
 add-m c = search needs
@@ -40,11 +63,11 @@ loop-less c = search needs
 loop-again : tie.Need-loop-again Inv-loop μ-loop
 loop-again c = search needs
 
-same-length : tie.Need-same-length Inv-loop μ-loop
-same-length c = search needs
+same-length-2 : tie.Need-same-length-2 Inv-loop μ-loop
+same-length-2 c = search needs
 
-returns : tie.Need-returns Inv-loop μ-loop
-returns c = search needs
+returns-5 : tie.Need-returns-5 Inv-loop μ-loop
+returns-5 c = search needs
 
 pub move-bursts-spec : {M : Type 1} → statement M
 move-bursts-spec =
@@ -52,14 +75,21 @@ move-bursts-spec =
     (tie.spec
     Inv-loop
     μ-loop
-    slice-aggregate-fill-room
-    fill-room-requires
+    add-if1
+    returns
+    add-if2
+    returns-2
+    need-requires
+    returns-3
     total-requires
     loop-holds
-    slice-aggregate-move-burst
-    move-burst-requires
+    offset-requires
+    same-length
+    returns-4
+    add-write-at
+    write-at-requires
     add-m
     loop-less
     loop-again
-    same-length
-    returns)
+    same-length-2
+    returns-5)

@@ -19,8 +19,8 @@ loop-holds c = search needs
 word-requires : tie.Need-word-requires Inv-loop μ-loop
 word-requires c κs = search needs
 
-put-word-requires : tie.Need-put-word-requires Inv-loop μ-loop
-put-word-requires c κs = search needs
+put-requires : tie.Need-put-requires Inv-loop μ-loop
+put-requires c κs = search needs
 
 add-w : tie.Need-add-w Inv-loop μ-loop
 add-w c = search needs
@@ -45,7 +45,7 @@ take-spec =
     μ-loop
     loop-holds
     word-requires
-    put-word-requires
+    put-requires
     add-w
     loop-less
     loop-again

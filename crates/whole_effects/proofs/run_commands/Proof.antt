@@ -1,0 +1,53 @@
+-- `whole_effects::run_commands` meets its contract.
+use mathlib.Core.Path.{_≡_}
+use Prim.Native.Nat.{_+_, _-_, _≤_}
+use borrow.Author.Needs.{needs}
+use native.Mathlib.Omega.{arith}
+use lib.ListN.{length, length-set}
+use Rattle.whole_effects.proofs.run_commands.Statement.{statement}
+use Rattle.whole_effects.proofs.run_commands.Tie as tie
+
+abbrev Inv-loop : tie.InvT-loop
+Inv-loop ops op-modifier size i₀ i = Unit
+
+abbrev μ-loop : tie.MeasureT-loop
+μ-loop ops op-modifier size i₀ i = length ops - i
+
+loop-holds : tie.Need-loop-holds Inv-loop μ-loop
+loop-holds c = search needs
+
+mul-run-command : tie.Need-mul-run-command Inv-loop μ-loop
+mul-run-command c = search needs
+
+shared-slice-read-run-command : tie.Need-shared-slice-read-run-command Inv-loop μ-loop
+shared-slice-read-run-command c = search needs
+
+run-command-requires : tie.Need-run-command-requires Inv-loop μ-loop
+run-command-requires c κs = search needs
+
+add-i : tie.Need-add-i Inv-loop μ-loop
+add-i c = search needs
+
+loop-less : tie.Need-loop-less Inv-loop μ-loop
+loop-less c = search needs
+
+loop-again : tie.Need-loop-again Inv-loop μ-loop
+loop-again c = search needs
+
+returns : tie.Need-returns Inv-loop μ-loop
+returns c = search needs
+
+pub run-commands-spec : {M : Type 1} → statement M
+run-commands-spec =
+    tie.close
+    (tie.spec
+    Inv-loop
+    μ-loop
+    loop-holds
+    mul-run-command
+    shared-slice-read-run-command
+    run-command-requires
+    add-i
+    loop-less
+    loop-again
+    returns)
