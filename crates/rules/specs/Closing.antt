@@ -1,18 +1,16 @@
 -- Short lists of calls: one that closes, one that is reset, and a full row. The answers are written out by hand from document 01.
 use mathlib.Core.Path.{_≡_, refl}
 use mathlib.Core.Bool.{false}
-use mathlib.Core.List.{List, [], _∷_, _++_}
+use mathlib.Core.List.{List, [], _∷_, _++_, map}
 use lib.ListN.{replicate}
-use Rattle.requests.specs.declared.Engine.the-variants as engine
-use Rattle.requests.specs.declared.Request.the-variants as request
 use Rattle.slots.specs.Slots.{emptyRow}
 use Rattle.rules.specs.World.{world, hcaOf}
-use Rattle.rules.specs.Book.{onRecord, closeHca, nop}
+use Rattle.rules.specs.Book.{Fed, onRecord, closeHca, nop, numberOf, gated, withRecord, afterRecord, afterOf}
 use Rattle.rules.specs.Calls.{engineRequest, step, collection, resetting, worldAfter}
-use Rattle.rules.specs.Demand3.{answered, runFrom, Run, done, finishedIn, bookOf, Demand3}
+use Rattle.rules.specs.Demand3.{answered, runFrom, Run, done, finishedIn, given, bookOf, Demand3}
 use Rattle.rules.specs.Theorems.{demand3}
 use Rattle.rules.specs.Scripts.{Line, _gets_, callsOf, givenBy, answersFrom, allSteps, asks, initMail, image, before, initHcr, start, everything}
-use Rattle.rules.specs.Worked.{initialises-it}
+use Rattle.rules.specs.Worked.{readState, initialises-it}
 
 -- ---- CLOSE_HCA
 
@@ -40,18 +38,24 @@ closed = runFrom start [] (callsOf closing)
 
 -- a refusal with 4 is not for a record's state
 pub closing-journal : closed .journal
-    ≡ answered (onRecord (request.Engine (engine.ReadState (record { 0 = 1 }))) []) (0 ∷ []) ∷ answered closeHca [] ∷ answered nop [] ∷ []
+    ≡ answered (onRecord (readState 1) []) (0 ∷ []) ∷ answered closeHca [] ∷ answered nop [] ∷ []
 unfolding everything closing closed
 closing-journal = refl
 
 pub closing-finished : finishedIn (closed .world) (closed .journal)
-    ≡ done (onRecord (request.Engine (engine.ReadState (record { 0 = 1 }))) []) (0 ∷ []) ∷ done closeHca [] ∷ done nop [] ∷ []
+    ≡ done (onRecord (readState 1) []) (0 ∷ []) ∷ done closeHca [] ∷ done nop [] ∷ []
 unfolding everything closing closed
 closing-finished = refl
 
 pub closing-demanded : Demand3 (bookOf start) (closed .world) (closed .journal)
 unfolding start closed
 closing-demanded = demand3 before initHcr initMail initialises-it (callsOf closing)
+
+-- "Closed, it gives 4 to all but NOP."
+pub closed-book : map (λ (f : Fed). numberOf f (given (bookOf start) (finishedIn (closed .world) (closed .journal)))) (onRecord (readState 0) [] ∷ closeHca ∷ nop ∷ [])
+    ≡ 4 ∷ 4 ∷ 0 ∷ []
+unfolding everything closing closed withRecord gated afterRecord afterOf
+closed-book = refl
 
 -- ---- Reset
 
@@ -104,6 +108,11 @@ full =
     ∷ step 5 gets (0 ∷ 0 ∷ [])
     ∷ collection 5 (9 ∷ []) gets (0 ∷ 1 ∷ 0 ∷ [])
     ∷ asks 0x19 1 image gets (0 ∷ 5 ∷ [])
+    ∷ allSteps 5 16
+    ++ collection 5 [] gets (0 ∷ 0 ∷ [])
+    ∷ engineRequest 2 1 0 0 gets (0 ∷ 5 ∷ [])
+    ∷ allSteps 5 2
+    ++ collection 5 (9 ∷ 9 ∷ 9 ∷ 9 ∷ []) gets (0 ∷ 4 ∷ 1 ∷ 0x6d ∷ 0x6e ∷ 0x6f ∷ [])
     ∷ []
 
 pub full-answers : answersFrom start (callsOf full) ≡ givenBy full

@@ -8,9 +8,9 @@ use lib.ListN.{take, drop, replicate}
 use Rattle.context.specs.Layout.{recordOf}
 use Rattle.context.specs.Records.{record-same}
 use Rattle.context.specs.declared.Record.the-variants as rec
-use Rattle.edges.specs.declared.State.the-variants.{Rtr, Rts}
+use Rattle.edges.specs.declared.State.the-variants.{Rtr, Rts, Err}
 use Rattle.edges.specs.declared.Edge.the-variants.{ResetToInit, InitToRtr, RtrToRts}
-use Rattle.requests.specs.declared.Psn.the-variants.{LastAcked, Expected}
+use Rattle.requests.specs.declared.Psn.the-variants.{NextSend, LastAcked, Expected}
 use Rattle.requests.specs.declared.Owned.the-variants as owned
 use Rattle.requests.specs.declared.Command.the-variants as on
 use Rattle.requests.specs.declared.Engine.the-variants as engine
@@ -41,51 +41,54 @@ resize = 0xa0 ∷ 0xa1 ∷ 0xa2 ∷ 0xa3 ∷ 0xa4 ∷ 0xa5 ∷ 0xa6 ∷ 0xa7 ∷
 
 unfoldable pub lines : List Line
 lines =
-    -- no engine request has this number; the queue pair is in RESET, so RTR to RTS is not permitted; RESET to INIT is
+    -- no engine request has this number; a reader of queue pair 1; queue pair 0 is in RESET, so that RTR to RTS is not permitted, but
+    -- RESET to INIT is
     engineRequest 7 0 0 0 gets (2 ∷ [])
+    ∷ engineRequest 1 1 0 0 gets (0 ∷ 0 ∷ [])
     ∷ asks 0x1b 0 image gets (0x85 ∷ [])
-    ∷ asks 0x19 0 image gets (0 ∷ 0 ∷ [])
-    -- it holds its record; the other queue pair is free; one command is uncollected
+    ∷ asks 0x19 0 image gets (0 ∷ 1 ∷ [])
+    -- its record is held, until its last burst; one command is uncollected, until it is collected
     ∷ engineRequest 1 0 0 0 gets (0x81 ∷ [])
-    ∷ engineRequest 1 1 0 0 gets (0 ∷ 1 ∷ [])
     ∷ asks 0x31 0 [] gets (0x81 ∷ [])
-    ∷ allSteps 0 16
-    ++ step 0 gets (0x84 ∷ [])
+    ∷ allSteps 1 16
+    ++ step 1 gets (0x84 ∷ [])
     ∷ asks 0x31 0 [] gets (0x81 ∷ [])
-    ∷ collection 0 [] gets (0 ∷ 0 ∷ [])
+    ∷ collection 1 [] gets (0 ∷ 0 ∷ [])
     ∷ asks 0x31 0 [] gets (0 ∷ [])
-    -- INIT to RTR
-    ∷ asks 0x1a 0 image′ gets (0 ∷ 0 ∷ [])
-    ∷ allSteps 0 16
-    ++ collection 0 [] gets (0 ∷ 0 ∷ [])
-    -- two readers of one record; a writer waits for both to finish, and not for their collection
-    ∷ engineRequest 2 0 0 0 gets (0 ∷ 0 ∷ [])
+    -- INIT to RTR; the mailbox is longer than needed
+    ∷ asks 0x1a 0 (image′ ++ 0x99 ∷ 0x99 ∷ []) gets (0 ∷ 1 ∷ [])
+    ∷ allSteps 1 16
+    ++ collection 1 [] gets (0 ∷ 0 ∷ [])
+    -- two readers of one record; a writer waits until both are finished, and not until they are collected
+    ∷ engineRequest 2 0 0 0 gets (0 ∷ 1 ∷ [])
     ∷ engineRequest 1 0 0 0 gets (0 ∷ 2 ∷ [])
-    ∷ step 0 gets (0 ∷ 1 ∷ [])
+    ∷ step 1 gets (0 ∷ 1 ∷ [])
     ∷ step 2 gets (0 ∷ 0 ∷ [])
-    ∷ engineRequest 5 0 0x20 2 gets (0x81 ∷ [])
-    ∷ step 0 gets (0 ∷ 0 ∷ [])
-    ∷ engineRequest 5 0 0x20 2 gets (0 ∷ 3 ∷ [])
-    -- state, then the PSN; the rest of the buffer stays
-    ∷ collection 0 (9 ∷ 9 ∷ 9 ∷ 9 ∷ 9 ∷ []) gets (0 ∷ 4 ∷ 2 ∷ 0x6d ∷ 0x6e ∷ 0x6f ∷ 9 ∷ [])
+    ∷ engineRequest 5 0 0x20 6 gets (0x81 ∷ [])
+    ∷ step 1 gets (0 ∷ 0 ∷ [])
+    -- RTR to RTS is no engine's write, RTR to ERR is
+    ∷ engineRequest 4 0 0x30 3 gets (0x85 ∷ [])
+    ∷ engineRequest 5 0 0x20 6 gets (0 ∷ 3 ∷ [])
     -- half written: held against a reader, and against a write that no state of the record permits
     ∷ step 3 gets (0 ∷ 1 ∷ [])
     ∷ collection 3 [] gets (0x86 ∷ [])
     ∷ engineRequest 1 0 0 0 gets (0x81 ∷ [])
     ∷ engineRequest 3 0 0 0 gets (0x81 ∷ [])
     ∷ step 3 gets (0 ∷ 0 ∷ [])
-    -- RTR to RTS is no engine write
-    ∷ engineRequest 4 0 0x30 3 gets (0x85 ∷ [])
-    -- slots 1, 2 and 3 are occupied
+    -- ERR permits no engine's write
+    ∷ engineRequest 3 0 0 2 gets (0x85 ∷ [])
+    -- RTR, as it was read, then the PSN; the rest of the buffer stays
+    ∷ collection 1 (9 ∷ 9 ∷ 9 ∷ 9 ∷ 9 ∷ []) gets (0 ∷ 4 ∷ 2 ∷ 0x6d ∷ 0x6e ∷ 0x6f ∷ 9 ∷ [])
+    -- slots 0, 2 and 3 are occupied
     ∷ asks 0x08 0 [] gets (0x81 ∷ [])
     ∷ step 8 gets (0x84 ∷ [])
     ∷ collection 4 [] gets (0x84 ∷ [])
-    -- a completion queue is handed over, then resized: the first of four bursts
-    ∷ asks 0x16 1 cq gets (0 ∷ 0 ∷ [])
-    ∷ allSteps 0 4
-    ++ collection 0 [] gets (0 ∷ 0 ∷ [])
-    ∷ asks 0x2c 1 resize gets (0 ∷ 0 ∷ [])
-    ∷ step 0 gets (0 ∷ 3 ∷ [])
+    -- a completion queue is handed over, then resized: one of the four bursts
+    ∷ asks 0x16 1 cq gets (0 ∷ 1 ∷ [])
+    ∷ allSteps 1 4
+    ++ collection 1 [] gets (0 ∷ 0 ∷ [])
+    ∷ asks 0x2c 1 resize gets (0 ∷ 1 ∷ [])
+    ∷ step 1 gets (0 ∷ 3 ∷ [])
     ∷ []
 
 pub answers : answersFrom start (callsOf lines) ≡ givenBy lines
@@ -114,10 +117,13 @@ abbrev pub readNext : Request
 readNext = request.Engine (engine.ReadNext (record { 0 = 0 }))
 
 abbrev pub writeExpected : Request
-writeExpected = request.Engine (engine.Write Expected (record { 0 = 0 }) 0x20 Rtr)
+writeExpected = request.Engine (engine.Write Expected (record { 0 = 0 }) 0x20 Err)
 
 abbrev pub writeAcked : Request
 writeAcked = request.Engine (engine.Write LastAcked (record { 0 = 0 }) 0x30 Rts)
+
+abbrev pub writeNext : Request
+writeNext = request.Engine (engine.Write NextSend (record { 0 = 0 }) 0 Rtr)
 
 abbrev pub ownCq : Request
 ownCq = request.Command (on.Sw2Hw (owned.Cq (record { 0 = 1 })))
@@ -128,8 +134,8 @@ resizeCq = request.Command (on.ResizeCq (record { 0 = 1 }))
 -- the slots: request and bursts moved
 unfoldable pub row : List Slot
 row =
-    slot (Running resizeCq 1)
-    ∷ slot (Running (readState 1) 0)
+    slot (Running (readState 1) 0)
+    ∷ slot (Running resizeCq 1)
     ∷ slot (Finished (readState 0) 1)
     ∷ slot (Finished writeExpected 2)
     ∷ slot Free
@@ -138,11 +144,11 @@ row =
     ∷ slot Free
     ∷ []
 
--- queue pair 0: its state is RTR; words 04h to 4Ch and word 84h are those of the second image, but for the PSN; from A4h on it is as
+-- queue pair 0: its state is ERR; words 04h to 4Ch and word 84h are those of the second image, but for the PSN; from A4h on it is as
 -- INIT_HCA left it. Completion queue 1: byte 0Ch is new, word 18h not yet. Behind the tables nothing has changed.
 unfoldable pub store : List ℕ
 store =
-    (0x25 ∷ upFrom 1 3)
+    (0x65 ∷ upFrom 1 3)
     ++ replicate 76 0xb2
     ++ upFrom 0x50 52
     ++ (0xb2 ∷ 0 ∷ 0 ∷ 0x20 ∷ upFrom 0x88 28)
@@ -153,18 +159,18 @@ store =
     ++ replicate 128 0
     ++ replicate 32 0xee
 
--- slot 0's part has its last mailbox at the front and, behind it, what is left of those before and of the PSN's burst, which was copied
--- to its offset, 60h; slot 2's part has the state's burst; an engine's write puts nothing into the room
+-- nothing has been copied to slot 0's part; slot 1's has its last mailbox at the front and, behind it, what is left of those before and of
+-- the PSN's burst, which was copied to its offset, 60h; slot 2's has the state's burst; an engine's write puts nothing into slot 3's
 unfoldable pub room : List ℕ
 room =
-    resize
+    replicate 256 0xdd
+    ++ resize
     ++ replicate 36 0xc1
     ++ (0 ∷ 0 ∷ 0 ∷ 1 ∷ replicate 8 0xc2)
     ++ replicate 40 0xb2
     ++ upFrom 0x60 16
     ++ replicate 52 0xb2
     ++ replicate 92 0xdd
-    ++ replicate 256 0xdd
     ++ (0x25 ∷ 1 ∷ 2 ∷ 3 ∷ replicate 12 0xb2)
     ++ replicate 240 0xdd
     ++ replicate 1282 0xdd
@@ -177,24 +183,25 @@ left = refl
 
 unfoldable pub journal : List Entry
 journal =
-    turnedAway (onRecord toRts image) 0x85
+    inSlot (onRecord (readState 1) []) 0
+    ∷ turnedAway (onRecord toRts image) 0x85
     ∷ answered (onRecord toInit image) []
-    ∷ inSlot (onRecord (readState 1) []) 1
     ∷ answered nop []
     ∷ answered (onRecord toRtr image′) []
     ∷ answered (onRecord readNext []) (2 ∷ 0x6d ∷ 0x6e ∷ 0x6f ∷ [])
     ∷ inSlot (onRecord (readState 0) []) 2
-    ∷ inSlot (onRecord writeExpected []) 3
     ∷ turnedAway (onRecord writeAcked []) 0x85
+    ∷ inSlot (onRecord writeExpected []) 3
+    ∷ turnedAway (onRecord writeNext []) 0x85
     ∷ answered (onRecord ownCq cq) []
-    ∷ inSlot (onRecord resizeCq resize) 0
+    ∷ inSlot (onRecord resizeCq resize) 1
     ∷ []
 
 pub journal-is : end .journal ≡ journal
 unfolding everything lines image′ cq resize end journal
 journal-is = refl
 
--- two of them are not collected; the resizing and the read of queue pair 1 are not finished
+-- two of them are not collected; the read of queue pair 1 and the resizing are not finished
 unfoldable pub finished : List Done
 finished =
     done (onRecord toInit image) []
@@ -228,10 +235,10 @@ reads =
     let d : Done = done (onRecord readNext []) (2 ∷ 0x6d ∷ 0x6e ∷ 0x6f ∷ []) in
     (demanded .accepts (take 3 finished) (drop 4 finished) d finished-is, demanded .answers (take 3 finished) (drop 4 finished) d finished-is)
 
--- of the write that is refused for the record's state, after six:
-pub refuses : numberOf (onRecord writeAcked []) (given (bookOf start) (finishedIn (end .world) (take 8 journal))) ≡ 0x85
+-- of the write that ERR does not permit, after the write to ERR, which is finished and not collected:
+pub refuses : numberOf (onRecord writeNext []) (given (bookOf start) (finishedIn (end .world) (take 9 journal))) ≡ 0x85
 unfolding journal
-refuses = demanded .refusals (take 8 journal) (drop 9 journal) (onRecord writeAcked []) 0x85 journal-is
+refuses = demanded .refusals (take 9 journal) (drop 10 journal) (onRecord writeNext []) 0x85 journal-is
 
 -- of queue pair 0, which nobody is writing:
 pub keeps : recordOf (end .world .hca .logs) (rec.Qp (record { 0 = 0 })) (end .world .store)
