@@ -36,6 +36,12 @@ closing-answers = refl
 unfoldable pub closed : Run
 closed = runFrom start [] (callsOf closing)
 
+-- "leave store, row and room"
+pub closing-left : closed .world ≡ world (hcaOf false (record { qps = 1; cqs = 1; eqs = 0; mpts = 0 }) 800) emptyRow (replicate 768 0 ++ replicate 32 0xee)
+    (replicate 16 0 ++ replicate 2034 0xdd)
+unfolding everything closing closed
+closing-left = refl
+
 -- a refusal with 4 is not for a record's state
 pub closing-journal : closed .journal
     ≡ answered (onRecord (readState 1) []) (0 ∷ []) ∷ answered closeHca [] ∷ answered nop [] ∷ []

@@ -1,10 +1,11 @@
 -- Document 01, "Order of checks: top to bottom, the first that applies.": calls to which two rows of the table of refusals apply, or one
 -- that is just not passed, each tried alone in a state that is handed in. The answers are written out by hand from document 01.
 use mathlib.Core.Path.{_≡_, refl}
-use mathlib.Core.Bool.{Bool, true, false}
+use mathlib.Core.Bool.{Bool, true, false, not}
 use mathlib.Core.List.{List, [], _∷_, _++_, map}
 use Prim.Native.Nat.{ℕ}
-use lib.ListN.{take, replicate}
+use lib.Dec.{eqb}
+use lib.ListN.{getD, take, replicate}
 use Rattle.context.specs.declared.Logs.{Logs}
 use Rattle.edges.specs.declared.State.the-variants.{Rtr}
 use Rattle.requests.specs.declared.Psn.the-variants.{NextSend}
@@ -18,6 +19,7 @@ use Rattle.slots.specs.declared.Status.{Status}
 use Rattle.slots.specs.declared.Status.the-variants.{Free, Running, Finished}
 use Rattle.rules.specs.World.{World, world, hcaOf}
 use Rattle.rules.specs.Calls.{Call, command, engineRequest, step, collection, resetting, answerOf, worldAfter}
+use Rattle.rules.specs.Frames.{refusedBy}
 use Rattle.rules.specs.Scripts.{Line, _gets_, callsOf, givenBy, shown, hcrOf, asks, initMail, image, before, start, everything}
 
 -- a state, and calls that are each tried in it
@@ -130,6 +132,11 @@ below87 =
     ∷ asks 0x18 0 [] gets (2 ∷ [])
     ∷ engineRequest 0 9 0 0 gets (2 ∷ [])
     ∷ asks 0x08 1 [] gets (4 ∷ [])
+    ∷ asks 0x16 0 [] gets (4 ∷ [])
+    ∷ asks 0x17 0 [] gets (4 ∷ [])
+    ∷ asks 0x2c 0 [] gets (4 ∷ [])
+    ∷ asks 0x22 0 [] gets (4 ∷ [])
+    ∷ asks 0x19 0 [] gets (4 ∷ [])
     ∷ engineRequest 1 9 0 0 gets (4 ∷ [])
     ∷ asks 0x07 1 [] gets (3 ∷ [])
     ∷ asks 0x07 0 (take 63 initMail) gets (0x83 ∷ [])
@@ -156,6 +163,7 @@ below87 =
     ∷ asks 0x19 0 typed2 gets (3 ∷ [])
     ∷ asks 0x1b 0 image gets (0x81 ∷ [])
     ∷ asks 0x22 0 [] gets (0 ∷ 1 ∷ [])
+    ∷ asks 0x17 0 [] gets (0x85 ∷ [])
     ∷ collection 0 [] gets (0x86 ∷ [])
     ∷ step 1 gets (0x84 ∷ [])
     ∷ [])
@@ -204,3 +212,14 @@ due l = map (λ (g : Group). givenBy (g .lines)) l
 pub ordered : got (handedIn ++ below87) ≡ due (handedIn ++ below87)
 unfolding everything alone commanded reading hasRead handedIn below87
 ordered = refl
+
+-- Every number but 0 is a refusal, of which the frame (Frames) speaks.
+abbrev pub refusals : List Group → List (List Bool)
+refusals l = map (λ (g : Group). map (λ (c : Call). refusedBy (answerOf (g .at) c)) (callsOf (g .lines))) l
+
+abbrev pub numbered : List Group → List (List Bool)
+numbered l = map (λ (g : Group). map (λ (a : List ℕ). not (eqb (getD a 0 0) 0)) (givenBy (g .lines))) l
+
+pub refusals-are : refusals (handedIn ++ below87) ≡ numbered (handedIn ++ below87)
+unfolding everything commanded reading hasRead handedIn below87
+refusals-are = refl

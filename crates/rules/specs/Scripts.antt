@@ -22,11 +22,13 @@ use Rattle.slots.specs.Slots.{emptyRow}
 use Rattle.slots.specs.Rows.{anySlot, anyRest, lowestFree}
 use Rattle.slots.specs.Holds.{clashRecords, heldAgainst}
 use Rattle.states.specs.Possible.{commandBefore, twoCommands, holdsClash, openImpossible, impossible}
+use Rattle.rules.specs.declared.SubmitAnswer.{SubmitAnswer}
 use Rattle.rules.specs.declared.SubmitAnswer.the-variants as submit
+use Rattle.rules.specs.declared.StepAnswer.{StepAnswer}
 use Rattle.rules.specs.declared.StepAnswer.the-variants as steps
+use Rattle.rules.specs.declared.CollectAnswer.{CollectAnswer}
 use Rattle.rules.specs.declared.CollectAnswer.the-variants as collects
-use Rattle.rules.specs.declared.ResetAnswer.the-variants as resets
-use Rattle.rules.specs.Numbers.{refusalNumber}
+use Rattle.rules.specs.Numbers.{submitNumber, stepNumber, collectNumber, resetNumber}
 use Rattle.rules.specs.World.{World, world, hcaOf, roomOf, frontOf, statusAt, badRow, badStore, badLent, badState}
 use Rattle.rules.specs.Admission.{recordNow, taken, placed, judged, admit}
 use Rattle.rules.specs.Commands.{initialised, closed, asked, busy, served, register, submitCommand}
@@ -54,16 +56,24 @@ callsOf l = map (λ (x : Line). x .call) l
 abbrev pub givenBy : List Line → List (List ℕ)
 givenBy l = map (λ (x : Line). x .gives) l
 
+abbrev pub submitValue : SubmitAnswer → List ℕ
+submitValue submit.Done = []
+submitValue (submit.Accepted k) = k ∷ []
+submitValue (submit.Refused c) = []
+
+abbrev pub stepValue : StepAnswer → List ℕ
+stepValue (steps.Left n) = n ∷ []
+stepValue (steps.Refused c) = []
+
+abbrev pub collectValue : CollectAnswer → List ℕ → List ℕ
+collectValue (collects.Collected n) out = n ∷ out
+collectValue (collects.Refused c) out = []
+
 abbrev pub shown : Answer → List ℕ
-shown (submitted submit.Done) = 0 ∷ []
-shown (submitted (submit.Accepted k)) = 0 ∷ k ∷ []
-shown (submitted (submit.Refused c)) = refusalNumber c ∷ []
-shown (stepped (steps.Left n)) = 0 ∷ n ∷ []
-shown (stepped (steps.Refused c)) = refusalNumber c ∷ []
-shown (collected (collects.Collected n) out) = 0 ∷ n ∷ out
-shown (collected (collects.Refused c) out) = refusalNumber c ∷ []
-shown (resetDone resets.Done) = 0 ∷ []
-shown (resetDone (resets.Refused c)) = refusalNumber c ∷ []
+shown (submitted a) = submitNumber a ∷ submitValue a
+shown (stepped a) = stepNumber a ∷ stepValue a
+shown (collected a out) = collectNumber a ∷ collectValue a out
+shown (resetDone a) = resetNumber a ∷ []
 
 -- the answers of a list of calls, each of which gets what the one before it left
 unfoldable pub answersFrom : World → List Call → List (List ℕ)

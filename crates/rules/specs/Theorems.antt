@@ -1,4 +1,7 @@
 -- THE THEOREMS about the rules. They assume nothing.
+use mathlib.Core.Path.{_≡_, ap}
+use Prim.Native.Nat.{ℕ, suc}
+use Rattle.rules.specs.Book.{Book, Fed, numberOf, effectOf, byNumber, afterOf}
 use Rattle.rules.specs.Frames.{Refusals, Records}
 use Rattle.rules.specs.Demand2.{Statement as States}
 use Rattle.rules.specs.Demand3.{Zeroed, Statement as Serial}
@@ -27,3 +30,8 @@ zeroed = started.begins-zero
 -- book's
 pub demand3 : Serial
 demand3 = serial.demand3
+
+-- of the plain book, "Otherwise it gets 0x85 and nothing changes": a request that gets a number changes nothing
+pub book-leaves : (f : Fed) (b : Book) (n : ℕ) → numberOf f b ≡ suc n → afterOf f b ≡ b
+unfolding afterOf
+book-leaves f b n e = ap (λ (m : ℕ). byNumber m b (effectOf f b)) e

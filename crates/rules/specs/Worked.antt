@@ -20,7 +20,8 @@ use Rattle.slots.specs.Slots.{slot}
 use Rattle.slots.specs.declared.Slot.{Slot}
 use Rattle.slots.specs.declared.Status.the-variants.{Free, Running, Finished}
 use Rattle.rules.specs.World.{world, hcaOf}
-use Rattle.rules.specs.Book.{onRecord, nop, numberOf, replyOf}
+use Rattle.rules.specs.Whole.{takeWords, setState, setPsn}
+use Rattle.rules.specs.Book.{Book, onRecord, nop, numberOf, replyOf, gated, withRecord, afterRecord, afterOf}
 use Rattle.rules.specs.Calls.{engineRequest, step, collection, initialises}
 use Rattle.rules.specs.Demand3.{Entry, turnedAway, answered, inSlot, runFrom, Run, Done, done, finishedIn, given, bookOf, Demand3}
 use Rattle.rules.specs.Theorems.{demand3}
@@ -145,16 +146,21 @@ row =
     ∷ []
 
 -- queue pair 0: its state is ERR; words 04h to 4Ch and word 84h are those of the second image, but for the PSN; from A4h on it is as
--- INIT_HCA left it. Completion queue 1: byte 0Ch is new, word 18h not yet. Behind the tables nothing has changed.
-unfoldable pub store : List ℕ
-store =
+-- INIT_HCA left it
+unfoldable pub qp : List ℕ
+qp =
     (0x65 ∷ upFrom 1 3)
     ++ replicate 76 0xb2
     ++ upFrom 0x50 52
     ++ (0xb2 ∷ 0 ∷ 0 ∷ 0x20 ∷ upFrom 0x88 28)
     ++ replicate 92 0
-    ++ replicate 256 0
-    ++ replicate 64 0
+
+-- behind it queue pair 1 and completion queue 0; completion queue 1, of which byte 0Ch is new and word 18h not yet; the event queue, the
+-- memory region, and what is behind the tables
+unfoldable pub store : List ℕ
+store =
+    qp
+    ++ replicate 320 0
     ++ (replicate 12 0xc1 ++ (0xa0 ∷ replicate 31 0xc1) ++ (0 ∷ 0 ∷ 0 ∷ 1 ∷ replicate 8 0xc2) ++ (replicate 7 0 ++ (1 ∷ [])))
     ++ replicate 128 0
     ++ replicate 32 0xee
@@ -176,7 +182,7 @@ room =
     ++ replicate 1282 0xdd
 
 pub left : end .world ≡ world (hcaOf true (record { qps = 1; cqs = 1; eqs = 0; mpts = 0 }) 800) row store room
-unfolding everything lines image′ cq resize end row store room
+unfolding everything lines image′ cq resize end row qp store room
 left = refl
 
 -- ---- The journal, and the requests that are finished
@@ -216,6 +222,24 @@ finished =
 pub finished-is : finishedIn (end .world) (end .journal) ≡ finished
 unfolding everything lines image′ cq resize end finished
 finished-is = refl
+
+-- ---- The plain book, given these one at a time
+
+-- the number and the answer of each
+abbrev pub bookGives : Book → List Done → List (List ℕ)
+bookGives b [] = []
+bookGives b (d ∷ l) = (numberOf (d .what) b ∷ replyOf (d .what) b) ∷ bookGives (afterOf (d .what) b) l
+
+pub book-answers : bookGives (bookOf start) finished
+    ≡ (0 ∷ []) ∷ (0 ∷ []) ∷ (0 ∷ []) ∷ (0 ∷ 2 ∷ 0x6d ∷ 0x6e ∷ 0x6f ∷ []) ∷ (0 ∷ 2 ∷ []) ∷ (0 ∷ []) ∷ (0 ∷ []) ∷ []
+unfolding everything finished image′ cq gated withRecord afterRecord afterOf takeWords setState setPsn
+book-answers = refl
+
+-- its record of queue pair 0 is the store's; completion queue 1, which is half resized in the store, is as it was handed over
+pub book-records : (given (bookOf start) finished .bytes (rec.Qp (record { 0 = 0 })) ≡ qp)
+    × (given (bookOf start) finished .bytes (rec.Cq (record { 0 = 1 })) ≡ cq ++ (replicate 7 0 ++ (1 ∷ [])))
+unfolding everything finished image′ cq qp gated withRecord afterRecord afterOf takeWords setState setPsn
+book-records = (refl, refl)
 
 -- ---- What the theorem says of it
 
