@@ -119,11 +119,7 @@ unfolding initialises closed initialised
 command-judged w bytes mail =
     command-is w (λ (s : Submitted). pick (isInit (commandFound (w .hca .logs) bytes)) (isDone (s .answer)) false ≡ false → Judged w → Judged (s .world))
     (λ _ _ i. i) (λ q m k p _ i. judged-taken w q m k i p) (λ _ i. judged-same w (closed w) refl refl refl i) (λ _ i. i) bytes mail
-    (λ i g e _. absurd (contradicted (isInit (commandFound (w .hca .logs) bytes)) i e))
-  where
-    contradicted : (b : Bool) → b ≡ true → pick b true false ≡ false → ⊥
-    contradicted true i e = true≢false e
-    contradicted false i e = false≢true i
+    (λ i g e _. absurd (true≢false (sym (ap (λ (b : Bool). pick b true false) i) ∙ e)))
 
 engine-judged : (w : World) (n index psn code : ℕ) → Judged w → Judged (submitEngine w n index psn code .world)
 engine-judged w n index psn code =

@@ -95,11 +95,7 @@ unfolding initialises taken closed initialised
 stores w bytes mail =
     command-is w (λ (s : Submitted). pick (isInit (commandFound (w .hca .logs) bytes)) (isDone (s .answer)) false ≡ false → s .world .store ≡ w .store)
     (λ _ _. refl) (λ _ _ _ _ _. refl) (λ _. refl) (λ _. refl) bytes mail
-    (λ i g e. absurd (contradicted (isInit (commandFound (w .hca .logs) bytes)) i e))
-  where
-    contradicted : (b : Bool) → b ≡ true → pick b true false ≡ false → ⊥
-    contradicted true i e = true≢false e
-    contradicted false i e = false≢true i
+    (λ i g e. absurd (true≢false (sym (ap (λ (b : Bool). pick b true false) i) ∙ e)))
 
 engine-stores : (w : World) (n index psn code : ℕ) → submitEngine w n index psn code .world .store ≡ w .store
 unfolding taken
