@@ -44,9 +44,9 @@ countOf g k = 2 ^ logOf g k
 -- "in that order from byte 0": each table starts where the one before it ends
 abbrev pub startOf : Logs → Kind → ℕ
 startOf g kind.Qp = 0
-startOf g kind.Cq = countOf g kind.Qp * 256
-startOf g kind.Eq = countOf g kind.Qp * 256 + countOf g kind.Cq * 64
-startOf g kind.Mpt = countOf g kind.Qp * 256 + countOf g kind.Cq * 64 + countOf g kind.Eq * 64
+startOf g kind.Cq = countOf g kind.Qp * sizeOf kind.Qp
+startOf g kind.Eq = countOf g kind.Qp * sizeOf kind.Qp + countOf g kind.Cq * sizeOf kind.Cq
+startOf g kind.Mpt = countOf g kind.Qp * sizeOf kind.Qp + countOf g kind.Cq * sizeOf kind.Cq + countOf g kind.Eq * sizeOf kind.Eq
 
 -- "the bytes in use"
 abbrev pub inUse : Logs → ℕ

@@ -1,7 +1,9 @@
 -- A number of each kind, "checked once at the entry and then carried".
-use Prim.Native.Nat.{ℕ, _^_}
+use Prim.Native.Nat.{ℕ}
 use lib.Dec.{ltb}
 use Rattle.words.specs.Choice.{pick}
+use Rattle.context.specs.Layout.{countOf}
+use Rattle.context.specs.declared.Kind.the-variants as kind
 use Rattle.context.specs.declared.Logs.{Logs}
 use Rattle.context.specs.declared.QpFound.{QpFound}
 use Rattle.context.specs.declared.QpFound.the-variants as qpFound
@@ -15,13 +17,13 @@ use Rattle.context.specs.declared.MptFound.the-variants as mptFound
 -- "a QP number is never accepted where a CQ number belongs": each kind has its own answer, the number if it is below its
 -- own count.
 abbrev pub qpOf : Logs → ℕ → QpFound
-qpOf g n = pick (ltb n (2 ^ g .qps)) (qpFound.Number (record { 0 = n })) qpFound.OutOfRange
+qpOf g n = pick (ltb n (countOf g kind.Qp)) (qpFound.Number (record { 0 = n })) qpFound.OutOfRange
 
 abbrev pub cqOf : Logs → ℕ → CqFound
-cqOf g n = pick (ltb n (2 ^ g .cqs)) (cqFound.Number (record { 0 = n })) cqFound.OutOfRange
+cqOf g n = pick (ltb n (countOf g kind.Cq)) (cqFound.Number (record { 0 = n })) cqFound.OutOfRange
 
 abbrev pub eqOf : Logs → ℕ → EqFound
-eqOf g n = pick (ltb n (2 ^ g .eqs)) (eqFound.Number (record { 0 = n })) eqFound.OutOfRange
+eqOf g n = pick (ltb n (countOf g kind.Eq)) (eqFound.Number (record { 0 = n })) eqFound.OutOfRange
 
 abbrev pub mptOf : Logs → ℕ → MptFound
-mptOf g n = pick (ltb n (2 ^ g .mpts)) (mptFound.Number (record { 0 = n })) mptFound.OutOfRange
+mptOf g n = pick (ltb n (countOf g kind.Mpt)) (mptFound.Number (record { 0 = n })) mptFound.OutOfRange
