@@ -18,7 +18,7 @@ pub mod Demand2
 pub mod Demand3
 pub mod Frames
 pub mod Theorems
--- The rules at work.
+-- The rules at work, by computation: document 01's examples; lists of calls with their answers.
 pub mod Examples
 pub mod Scripts
 pub mod Worked

@@ -38,7 +38,8 @@ cq = replicate 44 0xc1 ++ (0 ∷ 0 ∷ 0 ∷ 1 ∷ replicate 8 0xc2)
 unfoldable pub resize : List ℕ
 resize = 0xa0 ∷ 0xa1 ∷ 0xa2 ∷ 0xa3 ∷ 0xa4 ∷ 0xa5 ∷ 0xa6 ∷ 0xa7 ∷ []
 
--- ---- The calls and their answers
+-- ---- The calls and their answers: `engineRequest` has number, index, PSN and state, `asks` op, in_modifier and mailbox; `allSteps k n` is n
+-- steps of slot k
 
 unfoldable pub lines : List Line
 lines =
@@ -235,11 +236,12 @@ pub book-answers : bookGives (bookOf start) finished
 unfolding everything finished image′ cq gated withRecord afterRecord afterOf takeWords setState setPsn
 book-answers = refl
 
--- its record of queue pair 0 is the store's; completion queue 1, which is half resized in the store, is as it was handed over
-pub book-records : (given (bookOf start) finished .bytes (rec.Qp (record { 0 = 0 })) ≡ qp)
+-- its record of queue pair 0 is the store's, and in ERR; completion queue 1, which is half resized in the store, is as it was handed over
+pub book-records : (numberOf (onRecord writeNext []) (given (bookOf start) finished) ≡ 0x85)
+    × (given (bookOf start) finished .bytes (rec.Qp (record { 0 = 0 })) ≡ qp)
     × (given (bookOf start) finished .bytes (rec.Cq (record { 0 = 1 })) ≡ cq ++ (replicate 7 0 ++ (1 ∷ [])))
 unfolding everything finished image′ cq qp gated withRecord afterRecord afterOf takeWords setState setPsn
-book-records = (refl, refl)
+book-records = (refl, refl, refl)
 
 -- ---- What the theorem says of it
 
