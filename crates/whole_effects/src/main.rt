@@ -11,10 +11,10 @@ use requests::NumberFound;
 use requests::OpFound;
 use requests::Request;
 
-// The sizes of a queue pair's record and of the other records.
-const QP: usize = 256;
+// Where the record ends in the store: a queue pair's has 256 bytes, the others have 64.
+const QP: usize = memory::RECORD_AT + 256;
 
-const OTHER: usize = 64;
+const OTHER: usize = memory::RECORD_AT + 64;
 
 // Record 1, which each table has; queue pair 1 does start at byte 256 of the store.
 const INDEX: u32 = 1;
@@ -29,16 +29,15 @@ fn logs() -> Logs {
 }
 
 // Moves all bursts of a request in order, with its mailbox in the slot's part of the room.
-fn move_bursts(store: &mut [u8], room: &[u8], request: Request) {
+fn move_bursts(store: &mut [u8], request: Request) {
     if store.len() < memory::RECORD_AT + 256 {
-        return;
-    }
-    if room.len() < memory::PART_AT + 256 {
         return;
     }
     if 256 < tables::need(request) {
         return;
     }
+    let mut room = [0x1du8; 2048];
+    memory::fill_mailbox(&mut room, memory::PART_AT, memory::PART_AT + 164);
     let total = tables::total(request);
     let mut m = 0;
     while m < total {
@@ -49,7 +48,7 @@ fn move_bursts(store: &mut [u8], room: &[u8], request: Request) {
         bursts::write_at(
             store,
             memory::RECORD_AT + first,
-            room,
+            &room,
             memory::PART_AT,
             request,
             first,
@@ -59,7 +58,7 @@ fn move_bursts(store: &mut [u8], room: &[u8], request: Request) {
 }
 
 // A write that the model does not serve leaves the store, and the comparison then fails.
-fn move_command(store: &mut [u8], room: &[u8], op: u16, op_modifier: u8) {
+fn move_command(store: &mut [u8], op: u16, op_modifier: u8) {
     let OpFound::Served(served) = requests::read_op(op) else {
         return;
     };
@@ -67,56 +66,51 @@ fn move_command(store: &mut [u8], room: &[u8], op: u16, op_modifier: u8) {
     let CommandFound::OnRecord(command) = found else {
         return;
     };
-    move_bursts(store, room, Request::Command(command));
+    move_bursts(store, Request::Command(command));
 }
 
-fn move_engine(store: &mut [u8], room: &[u8], number: u32, psn: u32, state: u8) {
+fn move_engine(store: &mut [u8], number: u32, psn: u32, state: u8) {
     let NumberFound::Served(served) = requests::read_number(number) else {
         return;
     };
     let EngineFound::Asked(engine) = requests::read_engine(served, INDEX, psn, state, logs()) else {
         return;
     };
-    move_bursts(store, room, Request::Engine(engine));
+    move_bursts(store, Request::Engine(engine));
 }
 
 // The whole effect of a command, from the reference.
-fn make_whole(whole: &mut [u8], op: u16, size: usize) {
+fn make_whole(store: &mut [u8], op: u16) {
     let mut mailbox = [0u8; 164];
-    memory::fill_mailbox(&mut mailbox, 0);
-    memory::fill_record(whole, 0, size);
-    reference::command(op, whole, &mailbox);
+    memory::fill_mailbox(&mut mailbox, 0, 164);
+    reference::command(op, store, &mailbox);
 }
 
-fn run_command(op: u16, op_modifier: u8, size: usize) {
+fn run_command(op: u16, op_modifier: u8, end: usize) {
+    let mut whole = [memory::OUTSIDE; 768];
+    memory::fill_record(&mut whole, end);
+    let mut moved = whole;
+    make_whole(&mut whole, op);
+    move_command(&mut moved, op, op_modifier);
     memory::print_number(b"op 0x", op as u64);
-    let mut whole = [0u8; 256];
-    make_whole(&mut whole, op, size);
-    let mut store = [memory::OUTSIDE; 768];
-    memory::fill_record(&mut store, memory::RECORD_AT, size);
-    let mut room = [0x1du8; 2048];
-    memory::fill_mailbox(&mut room, memory::PART_AT);
-    move_command(&mut store, &room, op, op_modifier);
-    memory::report(&mut store, &whole, size);
+    memory::report(&moved, &whole, end);
 }
 
-// `at` is where document 01 has the PSN that the request writes.
-fn run_engine(number: u32, at: usize, psn: u32, state: u8) {
+// `w` is the offset at which document 01 has the PSN that the request writes.
+fn run_engine(number: u32, w: usize, psn: u32, state: u8) {
+    let mut whole = [memory::OUTSIDE; 768];
+    memory::fill_record(&mut whole, QP);
+    let mut moved = whole;
+    reference::engine(w, psn, state as u32, &mut whole);
+    move_engine(&mut moved, number, psn, state);
     memory::print_number(b"request ", number as u64);
-    let mut whole = [0u8; 256];
-    memory::fill_record(&mut whole, 0, QP);
-    reference::engine(at, psn, state as u32, &mut whole);
-    let mut store = [memory::OUTSIDE; 768];
-    memory::fill_record(&mut store, memory::RECORD_AT, QP);
-    let room = [0x1du8; 2048];
-    move_engine(&mut store, &room, number, psn, state);
-    memory::report(&mut store, &whole, QP);
+    memory::report(&moved, &whole, QP);
 }
 
-fn run_commands(ops: &[u16], op_modifier: u8, size: usize) {
+fn run_commands(ops: &[u16], op_modifier: u8, end: usize) {
     let mut i = 0;
     while i < ops.len() {
-        run_command(ops[i], op_modifier, size);
+        run_command(ops[i], op_modifier, end);
         i += 1;
     }
 }
@@ -135,11 +129,13 @@ fn run_all_commands() {
 
 // What each write starts from. A record of 64 bytes has the first 64 of these.
 fn print_start() {
-    let mut s = [0u8; 256];
-    memory::fill_record(&mut s, 0, QP);
-    memory::print_bytes(b"record before ", &s);
-    memory::fill_mailbox(&mut s, 0);
-    memory::print_bytes(b"mailbox       ", &s[0..164]);
+    let mut store = [memory::OUTSIDE; 768];
+    memory::fill_record(&mut store, QP);
+    memory::print_bytes(b"record before ", &store, memory::RECORD_AT, QP);
+    let mut mailbox = [0u8; 164];
+    memory::fill_mailbox(&mut mailbox, 0, 164);
+    memory::print_bytes(b"mailbox       ", &mailbox, 0, 164);
+    io::write_all(1, b"\n");
 }
 
 fn main() {

@@ -10,10 +10,10 @@ use Rattle.whole_effects.proofs.move_bursts.Statement.{statement}
 use Rattle.whole_effects.proofs.move_bursts.Tie as tie
 
 abbrev Inv-loop : tie.InvT-loop
-Inv-loop store₀ room request total m₀ store m = (length store ≡ length store₀) × (512 ≤ length store₀) × (512 ≤ length room) × (needOf request ≤ 256) × (total ≡ totalOf request)
+Inv-loop store₀ request room total m₀ store m = (length store ≡ length store₀) × (512 ≤ length store₀) × (length room ≡ 2048) × (needOf request ≤ 256) × (total ≡ totalOf request)
 
 abbrev μ-loop : tie.MeasureT-loop
-μ-loop store₀ room request total m₀ store m = total - m
+μ-loop store₀ request room total m₀ store m = total - m
 
 add-if1 : tie.Need-add-if1 Inv-loop μ-loop
 add-if1 c = search needs
@@ -21,17 +21,20 @@ add-if1 c = search needs
 returns : tie.Need-returns Inv-loop μ-loop
 returns c = search needs
 
-add-if2 : tie.Need-add-if2 Inv-loop μ-loop
-add-if2 c = search needs
+need-requires : tie.Need-need-requires Inv-loop μ-loop
+need-requires c κs = search needs
 
 returns-2 : tie.Need-returns-2 Inv-loop μ-loop
 returns-2 c = search needs
 
-need-requires : tie.Need-need-requires Inv-loop μ-loop
-need-requires c κs = search needs
+slice-aggregate-fill-mailbox : tie.Need-slice-aggregate-fill-mailbox Inv-loop μ-loop
+slice-aggregate-fill-mailbox c = search needs
 
-returns-3 : tie.Need-returns-3 Inv-loop μ-loop
-returns-3 c = search needs
+add-fill-mailbox : tie.Need-add-fill-mailbox Inv-loop μ-loop
+add-fill-mailbox c = search needs
+
+fill-mailbox-requires : tie.Need-fill-mailbox-requires Inv-loop μ-loop
+fill-mailbox-requires c κs = search needs
 
 total-requires : tie.Need-total-requires Inv-loop μ-loop
 total-requires c κs = search needs
@@ -45,11 +48,14 @@ offset-requires c κs = search needs
 same-length : tie.Need-same-length Inv-loop μ-loop
 same-length c = search needs
 
-returns-4 : tie.Need-returns-4 Inv-loop μ-loop
-returns-4 c = search needs
+returns-3 : tie.Need-returns-3 Inv-loop μ-loop
+returns-3 c = search needs
 
 add-write-at : tie.Need-add-write-at Inv-loop μ-loop
 add-write-at c = search needs
+
+slice-aggregate-write-at : tie.Need-slice-aggregate-write-at Inv-loop μ-loop
+slice-aggregate-write-at c = search needs
 
 write-at-requires : tie.Need-write-at-requires Inv-loop μ-loop
 write-at-requires c κs = search needs
@@ -66,8 +72,8 @@ loop-again c = search needs
 same-length-2 : tie.Need-same-length-2 Inv-loop μ-loop
 same-length-2 c = search needs
 
-returns-5 : tie.Need-returns-5 Inv-loop μ-loop
-returns-5 c = search needs
+returns-4 : tie.Need-returns-4 Inv-loop μ-loop
+returns-4 c = search needs
 
 pub move-bursts-spec : {M : Type 1} → statement M
 move-bursts-spec =
@@ -77,19 +83,21 @@ move-bursts-spec =
     μ-loop
     add-if1
     returns
-    add-if2
-    returns-2
     need-requires
-    returns-3
+    returns-2
+    slice-aggregate-fill-mailbox
+    add-fill-mailbox
+    fill-mailbox-requires
     total-requires
     loop-holds
     offset-requires
     same-length
-    returns-4
+    returns-3
     add-write-at
+    slice-aggregate-write-at
     write-at-requires
     add-m
     loop-less
     loop-again
     same-length-2
-    returns-5)
+    returns-4)

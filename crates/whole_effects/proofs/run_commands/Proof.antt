@@ -8,10 +8,10 @@ use Rattle.whole_effects.proofs.run_commands.Statement.{statement}
 use Rattle.whole_effects.proofs.run_commands.Tie as tie
 
 abbrev Inv-loop : tie.InvT-loop
-Inv-loop ops op-modifier size i₀ i = Unit
+Inv-loop ops op-modifier end i₀ i = Unit
 
 abbrev μ-loop : tie.MeasureT-loop
-μ-loop ops op-modifier size i₀ i = length ops - i
+μ-loop ops op-modifier end i₀ i = length ops - i
 
 loop-holds : tie.Need-loop-holds Inv-loop μ-loop
 loop-holds c = search needs
