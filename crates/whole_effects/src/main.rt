@@ -19,21 +19,16 @@ const OTHER: usize = memory::RECORD_AT + 64;
 // Record 1, which each table has; queue pair 1 does start at byte 256 of the store.
 const INDEX: u32 = 1;
 
-fn logs() -> Logs {
-    Logs {
-        qps: 3,
-        cqs: 2,
-        eqs: 1,
-        mpts: 2,
-    }
-}
+const LOGS: Logs = Logs {
+    qps: 3,
+    cqs: 2,
+    eqs: 1,
+    mpts: 2,
+};
 
 // Moves all bursts of a request in order, with its mailbox in the slot's part of the room.
 fn move_bursts(store: &mut [u8], request: Request) {
     if store.len() < memory::RECORD_AT + 256 {
-        return;
-    }
-    if 256 < tables::need(request) {
         return;
     }
     let mut room = [0x1du8; 2048];
@@ -42,9 +37,6 @@ fn move_bursts(store: &mut [u8], request: Request) {
     let mut m = 0;
     while m < total {
         let first = tables::offset(request, m);
-        if 240 < first {
-            return;
-        }
         bursts::write_at(
             store,
             memory::RECORD_AT + first,
@@ -62,7 +54,7 @@ fn move_command(store: &mut [u8], op: u16, op_modifier: u8) {
     let OpFound::Served(served) = requests::read_op(op) else {
         return;
     };
-    let found = requests::read_command(served, op_modifier, INDEX, logs());
+    let found = requests::read_command(served, op_modifier, INDEX, LOGS);
     let CommandFound::OnRecord(command) = found else {
         return;
     };
@@ -73,24 +65,17 @@ fn move_engine(store: &mut [u8], number: u32, psn: u32, state: u8) {
     let NumberFound::Served(served) = requests::read_number(number) else {
         return;
     };
-    let EngineFound::Asked(engine) = requests::read_engine(served, INDEX, psn, state, logs()) else {
+    let EngineFound::Asked(engine) = requests::read_engine(served, INDEX, psn, state, LOGS) else {
         return;
     };
     move_bursts(store, Request::Engine(engine));
 }
 
-// The whole effect of a command, from the reference.
-fn make_whole(store: &mut [u8], op: u16) {
-    let mut mailbox = [0u8; 164];
-    memory::fill_mailbox(&mut mailbox, 0, 164);
-    reference::command(op, store, &mailbox);
-}
-
-fn run_command(op: u16, op_modifier: u8, end: usize) {
+fn run_command(mailbox: &[u8], op: u16, op_modifier: u8, end: usize) {
     let mut whole = [memory::OUTSIDE; 768];
     memory::fill_record(&mut whole, end);
     let mut moved = whole;
-    make_whole(&mut whole, op);
+    reference::command(op, &mut whole, mailbox);
     move_command(&mut moved, op, op_modifier);
     memory::print_number(b"op 0x", op as u64);
     memory::report(&moved, &whole, end);
@@ -108,9 +93,11 @@ fn run_engine(number: u32, w: usize, psn: u32, state: u8) {
 }
 
 fn run_commands(ops: &[u16], op_modifier: u8, end: usize) {
+    let mut mailbox = [0u8; 164];
+    memory::fill_mailbox(&mut mailbox, 0, 164);
     let mut i = 0;
     while i < ops.len() {
-        run_command(ops[i], op_modifier, end);
+        run_command(&mailbox, ops[i], op_modifier, end);
         i += 1;
     }
 }

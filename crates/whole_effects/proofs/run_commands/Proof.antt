@@ -8,13 +8,22 @@ use Rattle.whole_effects.proofs.run_commands.Statement.{statement}
 use Rattle.whole_effects.proofs.run_commands.Tie as tie
 
 abbrev Inv-loop : tie.InvT-loop
-Inv-loop ops op-modifier end i₀ i = Unit
+Inv-loop ops op-modifier end mailbox i₀ i = length mailbox ≡ 164
 
 abbrev μ-loop : tie.MeasureT-loop
-μ-loop ops op-modifier end i₀ i = length ops - i
+μ-loop ops op-modifier end mailbox i₀ i = length ops - i
+
+slice-aggregate-fill-mailbox : tie.Need-slice-aggregate-fill-mailbox Inv-loop μ-loop
+slice-aggregate-fill-mailbox c = search needs
+
+fill-mailbox-requires : tie.Need-fill-mailbox-requires Inv-loop μ-loop
+fill-mailbox-requires c κs = search needs
 
 loop-holds : tie.Need-loop-holds Inv-loop μ-loop
 loop-holds c = search needs
+
+slice-aggregate-run-command : tie.Need-slice-aggregate-run-command Inv-loop μ-loop
+slice-aggregate-run-command c = search needs
 
 mul-run-command : tie.Need-mul-run-command Inv-loop μ-loop
 mul-run-command c = search needs
@@ -43,7 +52,10 @@ run-commands-spec =
     (tie.spec
     Inv-loop
     μ-loop
+    slice-aggregate-fill-mailbox
+    fill-mailbox-requires
     loop-holds
+    slice-aggregate-run-command
     mul-run-command
     shared-slice-read-run-command
     run-command-requires
