@@ -5,10 +5,12 @@ mod memory;
 mod reference;
 
 use context::Logs;
+use context::QpNumber;
+use edges::State;
 use requests::CommandFound;
-use requests::EngineFound;
-use requests::NumberFound;
+use requests::Engine;
 use requests::OpFound;
+use requests::Psn;
 use requests::Request;
 
 // Where the record ends in the store: a queue pair's has 256 bytes, the others have 64.
@@ -61,16 +63,6 @@ fn move_command(store: &mut [u8], op: u16, op_modifier: u8) {
     move_bursts(store, Request::Command(command));
 }
 
-fn move_engine(store: &mut [u8], number: u32, psn: u32, state: u8) {
-    let NumberFound::Served(served) = requests::read_number(number) else {
-        return;
-    };
-    let EngineFound::Asked(engine) = requests::read_engine(served, INDEX, psn, state, LOGS) else {
-        return;
-    };
-    move_bursts(store, Request::Engine(engine));
-}
-
 fn run_command(mailbox: &[u8], op: u16, op_modifier: u8, end: usize) {
     let mut whole = [memory::OUTSIDE; 768];
     memory::fill_record(&mut whole, end);
@@ -81,14 +73,14 @@ fn run_command(mailbox: &[u8], op: u16, op_modifier: u8, end: usize) {
     memory::report(&moved, &whole, end);
 }
 
-// `w` is the offset at which document 01 has the PSN that the request writes.
-fn run_engine(number: u32, w: usize, psn: u32, state: u8) {
+// For the reference, `w` is the offset of the PSN's word and `code` the state's code.
+fn run_engine(number: u64, write: Engine, w: usize, psn: u32, code: u32) {
     let mut whole = [memory::OUTSIDE; 768];
     memory::fill_record(&mut whole, QP);
     let mut moved = whole;
-    reference::engine(w, psn, state as u32, &mut whole);
-    move_engine(&mut moved, number, psn, state);
-    memory::print_number(b"request ", number as u64);
+    reference::engine(w, psn, code, &mut whole);
+    move_bursts(&mut moved, Request::Engine(write));
+    memory::print_number(b"request ", number);
     memory::report(&moved, &whole, QP);
 }
 
@@ -102,8 +94,8 @@ fn run_commands(ops: &[u16], op_modifier: u8, end: usize) {
     }
 }
 
-// The commands, in the order of document 01's table of edges, then MPT, EQ and CQ for each move of
-// ownership, and RESIZE_CQ.
+// The edges in the order of document 01's table, then MPT, EQ and CQ for each move of ownership,
+// and RESIZE_CQ.
 fn run_all_commands() {
     run_commands(
         &[0x19, 0x2d, 0x1a, 0x1b, 0x1c, 0x1d, 0x1f, 0x38, 0x20],
@@ -112,6 +104,15 @@ fn run_all_commands() {
     );
     run_commands(&[0x1e, 0x21], 3, QP);
     run_commands(&[0x0d, 0x13, 0x16, 0x0f, 0x14, 0x17, 0x2c], 0, OTHER);
+}
+
+fn run_engines() {
+    let next = Engine::Write(Psn::NextSend, QpNumber(INDEX), 0x123456, State::Rts);
+    run_engine(3, next, 0x6c, 0x123456, 3);
+    let acked = Engine::Write(Psn::LastAcked, QpNumber(INDEX), 0xfedcba, State::Sqd);
+    run_engine(4, acked, 0x7c, 0xfedcba, 5);
+    let expected = Engine::Write(Psn::Expected, QpNumber(INDEX), 0x000020, State::Rtr);
+    run_engine(5, expected, 0x84, 0x000020, 2);
 }
 
 // What each write starts from. A record of 64 bytes has the first 64 of these.
@@ -128,7 +129,5 @@ fn print_start() {
 fn main() {
     print_start();
     run_all_commands();
-    run_engine(3, 0x6c, 0x123456, 3);
-    run_engine(4, 0x7c, 0xfedcba, 5);
-    run_engine(5, 0x84, 0x000020, 2);
+    run_engines();
 }

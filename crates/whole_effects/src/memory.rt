@@ -58,6 +58,7 @@ pub fn print_number(label: &[u8], number: u64) {
     io::write_all(1, b"\n");
 }
 
+// The stores are compared whole: the reference changes the record alone.
 fn print_same(moved: &[u8], whole: &[u8]) {
     if check::same(moved, whole) {
         io::write_all(1, b"same, ");

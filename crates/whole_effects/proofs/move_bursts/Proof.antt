@@ -1,9 +1,10 @@
--- `whole_effects::move_bursts` meets its contract.
+-- `whole_effects::move_bursts` meets its contract. The store and the room keep their lengths, and the laws of the burst table
+-- place each burst in the record and the mailbox in the slot's part of the room.
 use mathlib.Core.Path.{_≡_}
 use Prim.Native.Nat.{ℕ, _+_, _-_, _≤_, _<_}
 use borrow.Author.Needs.{needs}
 use native.Mathlib.Omega.{arith}
-use lib.ListN.{length, length-set}
+use lib.ListN.{length}
 use Rattle.requests.specs.declared.Request.{Request}
 use Rattle.tables.specs.Bursts.{totalOf, offsetOf}
 use Rattle.bursts.specs.Table.{offset-room, need-small}

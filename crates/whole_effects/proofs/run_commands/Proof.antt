@@ -1,9 +1,8 @@
--- `whole_effects::run_commands` meets its contract.
+-- `whole_effects::run_commands` meets its contract: the mailbox keeps its length, and the ops left become fewer.
 use mathlib.Core.Path.{_≡_}
-use Prim.Native.Nat.{_+_, _-_, _≤_}
+use Prim.Native.Nat.{_-_}
 use borrow.Author.Needs.{needs}
-use native.Mathlib.Omega.{arith}
-use lib.ListN.{length, length-set}
+use lib.ListN.{length}
 use Rattle.whole_effects.proofs.run_commands.Statement.{statement}
 use Rattle.whole_effects.proofs.run_commands.Tie as tie
 

@@ -1,9 +1,8 @@
--- `whole_effects::memory::fill` meets its contract.
+-- `whole_effects::memory::fill` meets its contract: the slice keeps its length, which `end` does not pass.
 use mathlib.Core.Path.{_≡_}
-use Prim.Native.Nat.{_+_, _-_, _≤_}
+use Prim.Native.Nat.{_-_, _≤_}
 use borrow.Author.Needs.{needs}
-use native.Mathlib.Omega.{arith}
-use lib.ListN.{length, length-set}
+use lib.ListN.{length}
 use Rattle.whole_effects.proofs.memory.fill.Statement.{statement}
 use Rattle.whole_effects.proofs.memory.fill.Tie as tie
 

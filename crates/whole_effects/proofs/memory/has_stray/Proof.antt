@@ -1,9 +1,7 @@
--- `whole_effects::memory::has_stray` meets its contract.
-use mathlib.Core.Path.{_≡_}
-use Prim.Native.Nat.{_+_, _-_, _≤_}
+-- `whole_effects::memory::has_stray` meets its contract: the bytes left become fewer.
+use Prim.Native.Nat.{_-_}
 use borrow.Author.Needs.{needs}
-use native.Mathlib.Omega.{arith}
-use lib.ListN.{length, length-set}
+use lib.ListN.{length}
 use Rattle.whole_effects.proofs.memory.has_stray.Statement.{statement}
 use Rattle.whole_effects.proofs.memory.has_stray.Tie as tie
 

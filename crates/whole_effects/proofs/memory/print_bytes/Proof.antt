@@ -1,9 +1,8 @@
--- `whole_effects::memory::print_bytes` meets its contract.
+-- `whole_effects::memory::print_bytes` meets its contract. `t6` is the line's end, which is one byte.
 use mathlib.Core.Path.{_≡_}
-use Prim.Native.Nat.{_+_, _-_, _≤_}
+use Prim.Native.Nat.{_-_, _≤_}
 use borrow.Author.Needs.{needs}
-use native.Mathlib.Omega.{arith}
-use lib.ListN.{length, length-set}
+use lib.ListN.{length}
 use Rattle.whole_effects.proofs.memory.print_bytes.Statement.{statement}
 use Rattle.whole_effects.proofs.memory.print_bytes.Tie as tie
 

@@ -1,9 +1,8 @@
--- `whole_effects::reference::take` meets its contract.
+-- `whole_effects::reference::take` meets its contract. The last word's offset is a byte, so that the next one does not wrap.
 use mathlib.Core.Path.{_≡_}
-use Prim.Native.Nat.{_+_, _-_, _≤_}
+use Prim.Native.Nat.{_+_, _-_}
 use borrow.Author.Needs.{needs}
-use native.Mathlib.Omega.{arith}
-use lib.ListN.{length, length-set}
+use lib.ListN.{length}
 use Rattle.whole_effects.proofs.reference.take.Statement.{statement}
 use Rattle.whole_effects.proofs.reference.take.Tie as tie
 
