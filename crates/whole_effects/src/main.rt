@@ -5,51 +5,44 @@ mod memory;
 mod reference;
 
 use context::Logs;
+use context::QpNumber;
+use edges::State;
 use requests::CommandFound;
-use requests::EngineFound;
-use requests::NumberFound;
+use requests::Engine;
 use requests::OpFound;
+use requests::Psn;
 use requests::Request;
 
-// The sizes of a queue pair's record and of the other records.
-const QP: usize = 256;
+// Where the record ends in the store: a queue pair's has 256 bytes, the others have 64.
+const QP: usize = memory::RECORD_AT + 256;
 
-const OTHER: usize = 64;
+const OTHER: usize = memory::RECORD_AT + 64;
 
 // Record 1, which each table has; queue pair 1 does start at byte 256 of the store.
 const INDEX: u32 = 1;
 
-fn logs() -> Logs {
-    Logs {
-        qps: 3,
-        cqs: 2,
-        eqs: 1,
-        mpts: 2,
-    }
-}
+const LOGS: Logs = Logs {
+    qps: 3,
+    cqs: 2,
+    eqs: 1,
+    mpts: 2,
+};
 
 // Moves all bursts of a request in order, with its mailbox in the slot's part of the room.
-fn move_bursts(store: &mut [u8], room: &[u8], request: Request) {
+fn move_bursts(store: &mut [u8], request: Request) {
     if store.len() < memory::RECORD_AT + 256 {
         return;
     }
-    if room.len() < memory::PART_AT + 256 {
-        return;
-    }
-    if 256 < tables::need(request) {
-        return;
-    }
+    let mut room = [0x1du8; 2048];
+    memory::fill_mailbox(&mut room, memory::PART_AT, memory::PART_AT + 164);
     let total = tables::total(request);
     let mut m = 0;
     while m < total {
         let first = tables::offset(request, m);
-        if 240 < first {
-            return;
-        }
         bursts::write_at(
             store,
             memory::RECORD_AT + first,
-            room,
+            &room,
             memory::PART_AT,
             request,
             first,
@@ -59,70 +52,50 @@ fn move_bursts(store: &mut [u8], room: &[u8], request: Request) {
 }
 
 // A write that the model does not serve leaves the store, and the comparison then fails.
-fn move_command(store: &mut [u8], room: &[u8], op: u16, op_modifier: u8) {
+fn move_command(store: &mut [u8], op: u16, op_modifier: u8) {
     let OpFound::Served(served) = requests::read_op(op) else {
         return;
     };
-    let found = requests::read_command(served, op_modifier, INDEX, logs());
+    let found = requests::read_command(served, op_modifier, INDEX, LOGS);
     let CommandFound::OnRecord(command) = found else {
         return;
     };
-    move_bursts(store, room, Request::Command(command));
+    move_bursts(store, Request::Command(command));
 }
 
-fn move_engine(store: &mut [u8], room: &[u8], number: u32, psn: u32, state: u8) {
-    let NumberFound::Served(served) = requests::read_number(number) else {
-        return;
-    };
-    let EngineFound::Asked(engine) = requests::read_engine(served, INDEX, psn, state, logs()) else {
-        return;
-    };
-    move_bursts(store, room, Request::Engine(engine));
-}
-
-// The whole effect of a command, from the reference.
-fn make_whole(whole: &mut [u8], op: u16, size: usize) {
-    let mut mailbox = [0u8; 164];
-    memory::fill_mailbox(&mut mailbox, 0);
-    memory::fill_record(whole, 0, size);
-    reference::command(op, whole, &mailbox);
-}
-
-fn run_command(op: u16, op_modifier: u8, size: usize) {
+fn run_command(mailbox: &[u8], op: u16, op_modifier: u8, end: usize) {
+    let mut whole = [memory::OUTSIDE; 768];
+    memory::fill_record(&mut whole, end);
+    let mut moved = whole;
+    reference::command(op, &mut whole, mailbox);
+    move_command(&mut moved, op, op_modifier);
     memory::print_number(b"op 0x", op as u64);
-    let mut whole = [0u8; 256];
-    make_whole(&mut whole, op, size);
-    let mut store = [memory::OUTSIDE; 768];
-    memory::fill_record(&mut store, memory::RECORD_AT, size);
-    let mut room = [0x1du8; 2048];
-    memory::fill_mailbox(&mut room, memory::PART_AT);
-    move_command(&mut store, &room, op, op_modifier);
-    memory::report(&mut store, &whole, size);
+    memory::report(&moved, &whole, end);
 }
 
-// `at` is where document 01 has the PSN that the request writes.
-fn run_engine(number: u32, at: usize, psn: u32, state: u8) {
-    memory::print_number(b"request ", number as u64);
-    let mut whole = [0u8; 256];
-    memory::fill_record(&mut whole, 0, QP);
-    reference::engine(at, psn, state as u32, &mut whole);
-    let mut store = [memory::OUTSIDE; 768];
-    memory::fill_record(&mut store, memory::RECORD_AT, QP);
-    let room = [0x1du8; 2048];
-    move_engine(&mut store, &room, number, psn, state);
-    memory::report(&mut store, &whole, QP);
+// For the reference, `w` is the offset of the PSN's word and `code` the state's code.
+fn run_engine(number: u64, write: Engine, w: usize, psn: u32, code: u32) {
+    let mut whole = [memory::OUTSIDE; 768];
+    memory::fill_record(&mut whole, QP);
+    let mut moved = whole;
+    reference::engine(w, psn, code, &mut whole);
+    move_bursts(&mut moved, Request::Engine(write));
+    memory::print_number(b"request ", number);
+    memory::report(&moved, &whole, QP);
 }
 
-fn run_commands(ops: &[u16], op_modifier: u8, size: usize) {
+fn run_commands(ops: &[u16], op_modifier: u8, end: usize) {
+    let mut mailbox = [0u8; 164];
+    memory::fill_mailbox(&mut mailbox, 0, 164);
     let mut i = 0;
     while i < ops.len() {
-        run_command(ops[i], op_modifier, size);
+        run_command(&mailbox, ops[i], op_modifier, end);
         i += 1;
     }
 }
 
-// The commands, in the order of document 01's table of edges, then MPT, EQ and CQ for each move of
-// ownership, and RESIZE_CQ.
+// The edges in the order of document 01's table, then MPT, EQ and CQ for each move of ownership,
+// and RESIZE_CQ.
 fn run_all_commands() {
     run_commands(
         &[0x19, 0x2d, 0x1a, 0x1b, 0x1c, 0x1d, 0x1f, 0x38, 0x20],
@@ -133,19 +106,28 @@ fn run_all_commands() {
     run_commands(&[0x0d, 0x13, 0x16, 0x0f, 0x14, 0x17, 0x2c], 0, OTHER);
 }
 
+fn run_engines() {
+    let next = Engine::Write(Psn::NextSend, QpNumber(INDEX), 0x123456, State::Rts);
+    run_engine(3, next, 0x6c, 0x123456, 3);
+    let acked = Engine::Write(Psn::LastAcked, QpNumber(INDEX), 0xfedcba, State::Sqd);
+    run_engine(4, acked, 0x7c, 0xfedcba, 5);
+    let expected = Engine::Write(Psn::Expected, QpNumber(INDEX), 0x000020, State::Rtr);
+    run_engine(5, expected, 0x84, 0x000020, 2);
+}
+
 // What each write starts from. A record of 64 bytes has the first 64 of these.
 fn print_start() {
-    let mut s = [0u8; 256];
-    memory::fill_record(&mut s, 0, QP);
-    memory::print_bytes(b"record before ", &s);
-    memory::fill_mailbox(&mut s, 0);
-    memory::print_bytes(b"mailbox       ", &s[0..164]);
+    let mut store = [memory::OUTSIDE; 768];
+    memory::fill_record(&mut store, QP);
+    memory::print_bytes(b"record before ", &store, memory::RECORD_AT, QP);
+    let mut mailbox = [0u8; 164];
+    memory::fill_mailbox(&mut mailbox, 0, 164);
+    memory::print_bytes(b"mailbox       ", &mailbox, 0, 164);
+    io::write_all(1, b"\n");
 }
 
 fn main() {
     print_start();
     run_all_commands();
-    run_engine(3, 0x6c, 0x123456, 3);
-    run_engine(4, 0x7c, 0xfedcba, 5);
-    run_engine(5, 0x84, 0x000020, 2);
+    run_engines();
 }

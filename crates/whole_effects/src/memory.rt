@@ -9,42 +9,42 @@ pub const PART_AT: usize = 256;
 // Every byte of the store outside the record.
 pub const OUTSIDE: u8 = 0x47;
 
-// Byte `at` + i becomes (first + i * step) % 256, for each i below n.
-fn fill(s: &mut [u8], at: usize, n: usize, first: u8, step: u8) {
-    if s.len() < n {
-        return;
-    }
-    if s.len() - n < at {
+// The bytes from `at` to `end`: the first is `first`, each next one `step` more, modulo 256.
+fn fill(s: &mut [u8], at: usize, end: usize, first: u8, step: u8) {
+    if s.len() < end {
         return;
     }
     let mut b = first;
-    let mut i = 0;
-    while i < n {
-        s[at + i] = b;
+    let mut i = at;
+    while i < end {
+        s[i] = b;
         b = std::num::wrapping_add_u8(b, step);
         i += 1;
     }
 }
 
-// A record of `size` bytes. The state that it starts with, 10, is none of document 01's.
-pub fn fill_record(s: &mut [u8], at: usize, size: usize) {
-    fill(s, at, size, 0xa3, 7);
+// A record that ends at `end`. The state that it starts with, 10, is none of document 01's.
+pub fn fill_record(store: &mut [u8], end: usize) {
+    fill(store, RECORD_AT, end, 0xa3, 7);
 }
 
 // A mailbox of 164 bytes, each other than the record's byte at the same offset.
-pub fn fill_mailbox(s: &mut [u8], at: usize) {
-    fill(s, at, 164, 0xe5, 11);
+pub fn fill_mailbox(s: &mut [u8], at: usize, end: usize) {
+    fill(s, at, end, 0xe5, 11);
 }
 
 fn wide(x: u8) -> u64 {
     x as u64
 }
 
-// A label and bytes in hex, on one line.
-pub fn print_bytes(label: &[u8], s: &[u8]) {
+// A label and the bytes from `at` to `end` in hex, on one line.
+pub fn print_bytes(label: &[u8], s: &[u8], at: usize, end: usize) {
+    if s.len() < end {
+        return;
+    }
     io::write_all(1, label);
-    let mut i = 0;
-    while i < s.len() {
+    let mut i = at;
+    while i < end {
         io::print_hex(1, wide(s[i]), 2);
         i += 1;
     }
@@ -53,16 +53,13 @@ pub fn print_bytes(label: &[u8], s: &[u8]) {
 
 // The head of a write's lines.
 pub fn print_number(label: &[u8], number: u64) {
-    io::write_all(1, b"\n");
     io::write_all(1, label);
     io::print_hex(1, number, 1);
     io::write_all(1, b"\n");
 }
 
-// The record that the bursts left and the one that the reference left.
-fn print_records(moved: &[u8], whole: &[u8]) {
-    print_bytes(b"bursts ", moved);
-    print_bytes(b"whole  ", whole);
+// The stores are compared whole: the reference changes the record alone.
+fn print_same(moved: &[u8], whole: &[u8]) {
     if check::same(moved, whole) {
         io::write_all(1, b"same, ");
         return;
@@ -70,30 +67,41 @@ fn print_records(moved: &[u8], whole: &[u8]) {
     io::write_all(1, b"DIFFERENT, ");
 }
 
-// Whether the bytes outside the record stayed, once the record is made like them.
-fn print_outside(store: &mut [u8], size: usize) {
-    fill(store, RECORD_AT, size, OUTSIDE, 0);
-    let before = [OUTSIDE; 768];
-    if check::same(store, &before) {
-        io::write_all(1, b"every byte outside the record stayed\n");
-        return;
+// Whether byte i of the store, b, is outside the record and changed.
+fn is_stray(i: usize, end: usize, b: u8) -> bool {
+    if i < RECORD_AT {
+        return b != OUTSIDE;
     }
-    io::write_all(1, b"a byte outside the record CHANGED\n");
+    if i < end {
+        return false;
+    }
+    b != OUTSIDE
 }
 
-// Compares the record in the store with the reference's, and the rest of the store with what it
-// was.
-pub fn report(store: &mut [u8], whole: &[u8], size: usize) {
-    if 256 < size {
+fn has_stray(store: &[u8], end: usize) -> bool {
+    let mut i = 0;
+    while i < store.len() {
+        if is_stray(i, end, store[i]) {
+            return true;
+        }
+        i += 1;
+    }
+    false
+}
+
+fn print_outside(store: &[u8], end: usize) {
+    if has_stray(store, end) {
+        io::write_all(1, b"a byte outside the record CHANGED\n\n");
         return;
     }
-    let end = RECORD_AT + size;
-    if store.len() < end {
-        return;
-    }
-    if whole.len() < size {
-        return;
-    }
-    print_records(&store[RECORD_AT..end], &whole[0..size]);
-    print_outside(store, size);
+    io::write_all(1, b"every byte outside the record stayed\n\n");
+}
+
+// The record that the bursts left and the one that the reference left, and what the bursts left
+// outside it.
+pub fn report(moved: &[u8], whole: &[u8], end: usize) {
+    print_bytes(b"bursts ", moved, RECORD_AT, end);
+    print_bytes(b"whole  ", whole, RECORD_AT, end);
+    print_same(moved, whole);
+    print_outside(moved, end);
 }

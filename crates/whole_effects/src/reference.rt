@@ -1,5 +1,7 @@
-// The effect of each write on a whole record, made at once and word by word, as document 01's
-// tables give it. It is written apart from the model's byte rule, and the bursts are held to it.
+// The effect of each write on a whole record in the store, made at once and word by word, as
+// document 01's tables give it. It is written apart from the model's byte rule, and the bursts are
+// held to it.
+use crate::memory::RECORD_AT;
 
 // A row of the table of edges: the first and the last word of a range, two words beside it, and
 // the state that the edge leads to.
@@ -35,84 +37,80 @@ fn row_of(op: u16) -> Row {
     }
 }
 
-// The big-endian word at `at`, and 0 past the end.
-fn word(s: &[u8], at: usize) -> u32 {
-    if s.len() < 4 {
+// The mailbox's big-endian word at offset w, and 0 past the end.
+fn word(mailbox: &[u8], w: usize) -> u32 {
+    if mailbox.len() < 164 {
         return 0;
     }
-    if s.len() - 4 < at {
+    if 160 < w {
         return 0;
     }
-    words::read_be32(s, at)
+    words::read_be32(mailbox, w)
 }
 
-// Puts v into the word at `at`, beside the bits of it that `keep` keeps.
-fn put(s: &mut [u8], at: usize, keep: u32, v: u32) {
-    if s.len() < 4 {
+// Puts v into the record's word at offset w, beside the bits of it that `keep` keeps.
+fn put(store: &mut [u8], w: usize, keep: u32, v: u32) {
+    if store.len() < RECORD_AT + 256 {
         return;
     }
-    if s.len() - 4 < at {
+    if 252 < w {
         return;
     }
-    let old = words::read_be32(s, at);
-    words::write_be32(s, at, old & keep | v);
+    let old = words::read_be32(store, RECORD_AT + w);
+    words::write_be32(store, RECORD_AT + w, old & keep | v);
 }
 
-// Takes the image's words from offset `first` to offset `last`, both included.
-fn take(record: &mut [u8], image: &[u8], first: u8, last: u8) {
+// Takes the mailbox's words from offset `first` to offset `last`, both included.
+fn take(store: &mut [u8], mailbox: &[u8], first: u8, last: u8) {
     let end = last as usize;
     let mut w = first as usize;
     while w <= end {
-        put(record, w, 0, word(image, w));
+        put(store, w, 0, word(mailbox, w));
         w += 4;
     }
 }
 
-fn zero(record: &mut [u8]) {
-    let n = record.len();
-    words::fill(record, 0, n, 0);
+// Zeroes the record's words from 00h to `last`.
+fn zero(store: &mut [u8], last: u8) {
+    take(store, b"", 0x00, last);
 }
 
-// The state is bits 31:28 of word 00h.
-fn set_state(record: &mut [u8], state: u32) {
-    put(record, 0x00, 0x0fff_ffff, state << 28);
-}
-
-fn edge(op: u16, record: &mut [u8], image: &[u8]) {
+fn edge(op: u16, store: &mut [u8], mailbox: &[u8]) {
     let r = row_of(op);
-    take(record, image, r.0, r.1);
-    take(record, image, r.2, r.2);
-    take(record, image, r.3, r.3);
-    set_state(record, r.4);
+    take(store, mailbox, r.0, r.1);
+    take(store, mailbox, r.2, r.2);
+    take(store, mailbox, r.3, r.3);
+    // The state is bits 31:28.
+    put(store, 0x00, 0x0fff_ffff, r.4 << 28);
 }
 
-// The mailbox's words from 00h to `last` are stored, all else is 0, and byte 63 is 1.
-fn to_hardware(record: &mut [u8], image: &[u8], last: u8) {
-    zero(record);
-    take(record, image, 0x00, last);
-    put(record, 0x3c, 0, 1);
+// The words to `last` are stored, all else is 0, and byte 63 is 1.
+fn to_hardware(store: &mut [u8], mailbox: &[u8], last: u8) {
+    zero(store, 0x3c);
+    take(store, mailbox, 0x00, last);
+    put(store, 0x3c, 0, 1);
 }
 
 // Byte 0Ch is the top byte of its word, as byte 00h is.
-fn resize(record: &mut [u8], image: &[u8]) {
-    put(record, 0x0c, 0x00ff_ffff, word(image, 0x00) & 0xff00_0000);
-    put(record, 0x18, 0, word(image, 0x04));
+fn resize(store: &mut [u8], mailbox: &[u8]) {
+    put(store, 0x0c, 0x00ff_ffff, word(mailbox, 0x00) & 0xff00_0000);
+    put(store, 0x18, 0, word(mailbox, 0x04));
 }
 
-// The whole effect of a command; `image` is the mailbox.
-pub fn command(op: u16, record: &mut [u8], image: &[u8]) {
+pub fn command(op: u16, store: &mut [u8], mailbox: &[u8]) {
     match op {
         // 56 bytes for MPT and CQ, 48 for EQ.
-        0x0d | 0x16 => to_hardware(record, image, 0x34),
-        0x13 => to_hardware(record, image, 0x2c),
-        0x0f | 0x14 | 0x17 | 0x21 => zero(record),
-        0x2c => resize(record, image),
-        _ => edge(op, record, image),
+        0x0d | 0x16 => to_hardware(store, mailbox, 0x34),
+        0x13 => to_hardware(store, mailbox, 0x2c),
+        0x0f | 0x14 | 0x17 => zero(store, 0x3c),
+        0x2c => resize(store, mailbox),
+        0x21 => zero(store, 0xfc),
+        _ => edge(op, store, mailbox),
     }
 }
 
-// The whole effect of an engine write of the PSN in the word at `at`, whose top byte stays.
-pub fn engine(at: usize, psn: u32, state: u32, record: &mut [u8]) {
-    put(record, at, 0xff00_0000, psn);
-    set_state(record, state);
+// An engine write of the PSN in the word at offset w, whose top byte stays.
+pub fn engine(w: usize, psn: u32, state: u32, store: &mut [u8]) {
+    put(store, w, 0xff00_0000, psn);
+    put(store, 0x00, 0x0fff_ffff, state << 28);
 }

@@ -1,19 +1,25 @@
--- `whole_effects::move_bursts` meets its contract.
+-- `whole_effects::move_bursts` meets its contract. The store and the room keep their lengths, and the laws of the burst table
+-- place each burst in the record and the mailbox in the slot's part of the room.
 use mathlib.Core.Path.{_≡_}
-use Prim.Native.Nat.{_+_, _-_, _≤_}
+use Prim.Native.Nat.{ℕ, _+_, _-_, _≤_, _<_}
 use borrow.Author.Needs.{needs}
 use native.Mathlib.Omega.{arith}
-use lib.ListN.{length, length-set}
-use Rattle.tables.specs.Mailboxes.{needOf}
-use Rattle.tables.specs.Bursts.{totalOf}
+use lib.ListN.{length}
+use Rattle.requests.specs.declared.Request.{Request}
+use Rattle.tables.specs.Bursts.{totalOf, offsetOf}
+use Rattle.bursts.specs.Table.{offset-room, need-small}
 use Rattle.whole_effects.proofs.move_bursts.Statement.{statement}
 use Rattle.whole_effects.proofs.move_bursts.Tie as tie
 
+-- burst m lies in the first 256 bytes of the record
+placed : (q : Request) (m total first : ℕ) → m < total → total ≡ totalOf q → first ≡ offsetOf q m → first + 16 ≤ 256
+placed q m total first h e p = omega (arith, offset-room q m (omega arith))
+
 abbrev Inv-loop : tie.InvT-loop
-Inv-loop store₀ room request total m₀ store m = (length store ≡ length store₀) × (512 ≤ length store₀) × (512 ≤ length room) × (needOf request ≤ 256) × (total ≡ totalOf request)
+Inv-loop store₀ request room total m₀ store m = (length store ≡ length store₀) × (512 ≤ length store₀) × (length room ≡ 2048) × (total ≡ totalOf request)
 
 abbrev μ-loop : tie.MeasureT-loop
-μ-loop store₀ room request total m₀ store m = total - m
+μ-loop store₀ request room total m₀ store m = total - m
 
 add-if1 : tie.Need-add-if1 Inv-loop μ-loop
 add-if1 c = search needs
@@ -21,17 +27,14 @@ add-if1 c = search needs
 returns : tie.Need-returns Inv-loop μ-loop
 returns c = search needs
 
-add-if2 : tie.Need-add-if2 Inv-loop μ-loop
-add-if2 c = search needs
+slice-aggregate-fill-mailbox : tie.Need-slice-aggregate-fill-mailbox Inv-loop μ-loop
+slice-aggregate-fill-mailbox c = search needs
 
-returns-2 : tie.Need-returns-2 Inv-loop μ-loop
-returns-2 c = search needs
+add-fill-mailbox : tie.Need-add-fill-mailbox Inv-loop μ-loop
+add-fill-mailbox c = search needs
 
-need-requires : tie.Need-need-requires Inv-loop μ-loop
-need-requires c κs = search needs
-
-returns-3 : tie.Need-returns-3 Inv-loop μ-loop
-returns-3 c = search needs
+fill-mailbox-requires : tie.Need-fill-mailbox-requires Inv-loop μ-loop
+fill-mailbox-requires c κs = search needs
 
 total-requires : tie.Need-total-requires Inv-loop μ-loop
 total-requires c κs = search needs
@@ -42,17 +45,21 @@ loop-holds c = search needs
 offset-requires : tie.Need-offset-requires Inv-loop μ-loop
 offset-requires c κs = search needs
 
-same-length : tie.Need-same-length Inv-loop μ-loop
-same-length c = search needs
-
-returns-4 : tie.Need-returns-4 Inv-loop μ-loop
-returns-4 c = search needs
-
 add-write-at : tie.Need-add-write-at Inv-loop μ-loop
-add-write-at c = search needs
+add-write-at c =
+    let at = c .before .before .before in
+    let q = at .before .before .before .before .before .before .before .args .request in
+    omega (arith, placed q (at .loop .m) _ _ (c .before .before .loop-test .taken) (at .loop .inv .3) (c .before .offset .ensures))
+
+slice-aggregate-write-at : tie.Need-slice-aggregate-write-at Inv-loop μ-loop
+slice-aggregate-write-at c = search needs
 
 write-at-requires : tie.Need-write-at-requires Inv-loop μ-loop
-write-at-requires c κs = search needs
+write-at-requires c κs =
+    let at = c .before .before .before .before in
+    let q = at .before .before .before .before .before .before .before .args .request in
+    omega
+    (arith, placed q (at .loop .m) _ _ (c .before .before .before .loop-test .taken) (at .loop .inv .3) (c .before .before .offset .ensures), need-small q)
 
 add-m : tie.Need-add-m Inv-loop μ-loop
 add-m c = search needs
@@ -63,11 +70,11 @@ loop-less c = search needs
 loop-again : tie.Need-loop-again Inv-loop μ-loop
 loop-again c = search needs
 
-same-length-2 : tie.Need-same-length-2 Inv-loop μ-loop
-same-length-2 c = search needs
+same-length : tie.Need-same-length Inv-loop μ-loop
+same-length c = search needs
 
-returns-5 : tie.Need-returns-5 Inv-loop μ-loop
-returns-5 c = search needs
+returns-2 : tie.Need-returns-2 Inv-loop μ-loop
+returns-2 c = search needs
 
 pub move-bursts-spec : {M : Type 1} → statement M
 move-bursts-spec =
@@ -77,19 +84,17 @@ move-bursts-spec =
     μ-loop
     add-if1
     returns
-    add-if2
-    returns-2
-    need-requires
-    returns-3
+    slice-aggregate-fill-mailbox
+    add-fill-mailbox
+    fill-mailbox-requires
     total-requires
     loop-holds
     offset-requires
-    same-length
-    returns-4
     add-write-at
+    slice-aggregate-write-at
     write-at-requires
     add-m
     loop-less
     loop-again
-    same-length-2
-    returns-5)
+    same-length
+    returns-2)

@@ -1,20 +1,28 @@
--- `whole_effects::run_commands` meets its contract.
+-- `whole_effects::run_commands` meets its contract: the mailbox keeps its length, and the ops left become fewer.
 use mathlib.Core.Path.{_≡_}
-use Prim.Native.Nat.{_+_, _-_, _≤_}
+use Prim.Native.Nat.{_-_}
 use borrow.Author.Needs.{needs}
-use native.Mathlib.Omega.{arith}
-use lib.ListN.{length, length-set}
+use lib.ListN.{length}
 use Rattle.whole_effects.proofs.run_commands.Statement.{statement}
 use Rattle.whole_effects.proofs.run_commands.Tie as tie
 
 abbrev Inv-loop : tie.InvT-loop
-Inv-loop ops op-modifier size i₀ i = Unit
+Inv-loop ops op-modifier end mailbox i₀ i = length mailbox ≡ 164
 
 abbrev μ-loop : tie.MeasureT-loop
-μ-loop ops op-modifier size i₀ i = length ops - i
+μ-loop ops op-modifier end mailbox i₀ i = length ops - i
+
+slice-aggregate-fill-mailbox : tie.Need-slice-aggregate-fill-mailbox Inv-loop μ-loop
+slice-aggregate-fill-mailbox c = search needs
+
+fill-mailbox-requires : tie.Need-fill-mailbox-requires Inv-loop μ-loop
+fill-mailbox-requires c κs = search needs
 
 loop-holds : tie.Need-loop-holds Inv-loop μ-loop
 loop-holds c = search needs
+
+slice-aggregate-run-command : tie.Need-slice-aggregate-run-command Inv-loop μ-loop
+slice-aggregate-run-command c = search needs
 
 mul-run-command : tie.Need-mul-run-command Inv-loop μ-loop
 mul-run-command c = search needs
@@ -43,7 +51,10 @@ run-commands-spec =
     (tie.spec
     Inv-loop
     μ-loop
+    slice-aggregate-fill-mailbox
+    fill-mailbox-requires
     loop-holds
+    slice-aggregate-run-command
     mul-run-command
     shared-slice-read-run-command
     run-command-requires

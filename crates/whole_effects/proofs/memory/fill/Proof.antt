@@ -1,32 +1,22 @@
--- `whole_effects::memory::fill` meets its contract.
+-- `whole_effects::memory::fill` meets its contract: the slice keeps its length, which `end` does not pass.
 use mathlib.Core.Path.{_≡_}
-use Prim.Native.Nat.{_+_, _-_, _≤_}
+use Prim.Native.Nat.{_-_, _≤_}
 use borrow.Author.Needs.{needs}
-use native.Mathlib.Omega.{arith}
-use lib.ListN.{length, length-set}
+use lib.ListN.{length}
 use Rattle.whole_effects.proofs.memory.fill.Statement.{statement}
 use Rattle.whole_effects.proofs.memory.fill.Tie as tie
 
 abbrev Inv-loop : tie.InvT-loop
-Inv-loop s₀ at n first step b₀ i₀ s b i = (length s ≡ length s₀) × (at + n ≤ length s₀)
+Inv-loop s₀ at end first step b₀ i₀ s b i = (length s ≡ length s₀) × (end ≤ length s₀)
 
 abbrev μ-loop : tie.MeasureT-loop
-μ-loop s₀ at n first step b₀ i₀ s b i = n - i
+μ-loop s₀ at end first step b₀ i₀ s b i = end - i
 
 returns : tie.Need-returns Inv-loop μ-loop
 returns c = search needs
 
-sub-if2 : tie.Need-sub-if2 Inv-loop μ-loop
-sub-if2 c = search needs
-
-returns-2 : tie.Need-returns-2 Inv-loop μ-loop
-returns-2 c = search needs
-
 loop-holds : tie.Need-loop-holds Inv-loop μ-loop
 loop-holds c = search needs
-
-add-s : tie.Need-add-s Inv-loop μ-loop
-add-s c = search needs
 
 slice-write-s : tie.Need-slice-write-s Inv-loop μ-loop
 slice-write-s c = search needs
@@ -46,8 +36,8 @@ loop-again c = search needs
 same-length : tie.Need-same-length Inv-loop μ-loop
 same-length c = search needs
 
-returns-3 : tie.Need-returns-3 Inv-loop μ-loop
-returns-3 c = search needs
+returns-2 : tie.Need-returns-2 Inv-loop μ-loop
+returns-2 c = search needs
 
 pub fill-spec : {M : Type 1} → statement M
 fill-spec =
@@ -56,14 +46,11 @@ fill-spec =
     Inv-loop
     μ-loop
     returns
-    sub-if2
-    returns-2
     loop-holds
-    add-s
     slice-write-s
     wrapping-add-u8-requires
     add-i
     loop-less
     loop-again
     same-length
-    returns-3)
+    returns-2)

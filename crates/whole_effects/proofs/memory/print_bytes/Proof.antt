@@ -1,17 +1,19 @@
--- `whole_effects::memory::print_bytes` meets its contract.
+-- `whole_effects::memory::print_bytes` meets its contract. `t6` is the line's end, which is one byte.
 use mathlib.Core.Path.{_≡_}
-use Prim.Native.Nat.{_+_, _-_}
+use Prim.Native.Nat.{_-_, _≤_}
 use borrow.Author.Needs.{needs}
-use native.Mathlib.Omega.{arith}
-use lib.ListN.{length, length-set}
+use lib.ListN.{length}
 use Rattle.whole_effects.proofs.memory.print_bytes.Statement.{statement}
 use Rattle.whole_effects.proofs.memory.print_bytes.Tie as tie
 
 abbrev Inv-loop : tie.InvT-loop
-Inv-loop label s i₀ t4 i = length t4 ≡ 1
+Inv-loop label s at end i₀ t6 i = (end ≤ length s) × (length t6 ≡ 1)
 
 abbrev μ-loop : tie.MeasureT-loop
-μ-loop label s i₀ t4 i = length s - i
+μ-loop label s at end i₀ t6 i = end - i
+
+returns : tie.Need-returns Inv-loop μ-loop
+returns c = search needs
 
 write-all-requires : tie.Need-write-all-requires Inv-loop μ-loop
 write-all-requires c κs = search needs
@@ -43,8 +45,8 @@ slice-aggregate-write-all c = search needs
 write-all-requires-2 : tie.Need-write-all-requires-2 Inv-loop μ-loop
 write-all-requires-2 c κs = search needs
 
-returns : tie.Need-returns Inv-loop μ-loop
-returns c = search needs
+returns-2 : tie.Need-returns-2 Inv-loop μ-loop
+returns-2 c = search needs
 
 pub print-bytes-spec : {M : Type 1} → statement M
 print-bytes-spec =
@@ -52,6 +54,7 @@ print-bytes-spec =
     (tie.spec
     Inv-loop
     μ-loop
+    returns
     write-all-requires
     loop-holds
     shared-slice-read-wide
@@ -62,4 +65,4 @@ print-bytes-spec =
     loop-again
     slice-aggregate-write-all
     write-all-requires-2
-    returns)
+    returns-2)

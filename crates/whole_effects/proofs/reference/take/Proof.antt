@@ -1,17 +1,16 @@
--- `whole_effects::reference::take` meets its contract.
+-- `whole_effects::reference::take` meets its contract. The last word's offset is a byte, so that the next one does not wrap.
 use mathlib.Core.Path.{_≡_}
 use Prim.Native.Nat.{_+_, _-_}
 use borrow.Author.Needs.{needs}
-use native.Mathlib.Omega.{arith}
-use lib.ListN.{length, length-set}
+use lib.ListN.{length}
 use Rattle.whole_effects.proofs.reference.take.Statement.{statement}
 use Rattle.whole_effects.proofs.reference.take.Tie as tie
 
 abbrev Inv-loop : tie.InvT-loop
-Inv-loop record₀ image first last end w₀ «record» w = length «record» ≡ length record₀
+Inv-loop store₀ mailbox first last end w₀ store w = length store ≡ length store₀
 
 abbrev μ-loop : tie.MeasureT-loop
-μ-loop record₀ image first last end w₀ «record» w = end + 4 - w
+μ-loop store₀ mailbox first last end w₀ store w = end + 4 - w
 
 loop-holds : tie.Need-loop-holds Inv-loop μ-loop
 loop-holds c = search needs
