@@ -69,7 +69,7 @@ fn run_command(mailbox: &[u8], op: u16, op_modifier: u8, end: usize) {
     let mut moved = whole;
     reference::command(op, &mut whole, mailbox);
     move_command(&mut moved, op, op_modifier);
-    memory::print_number(b"op 0x", op as u64);
+    memory::print_number(b"\nop 0x", op as u64);
     memory::report(&moved, &whole, end);
 }
 
@@ -80,7 +80,7 @@ fn run_engine(number: u64, write: Engine, w: usize, psn: u32, code: u32) {
     let mut moved = whole;
     reference::engine(w, psn, code, &mut whole);
     move_bursts(&mut moved, Request::Engine(write));
-    memory::print_number(b"request ", number);
+    memory::print_number(b"\nrequest ", number);
     memory::report(&moved, &whole, QP);
 }
 
@@ -123,7 +123,6 @@ fn print_start() {
     let mut mailbox = [0u8; 164];
     memory::fill_mailbox(&mut mailbox, 0, 164);
     memory::print_bytes(b"mailbox       ", &mailbox, 0, 164);
-    io::write_all(1, b"\n");
 }
 
 fn main() {

@@ -58,15 +58,6 @@ pub fn print_number(label: &[u8], number: u64) {
     io::write_all(1, b"\n");
 }
 
-// The stores are compared whole: the reference changes the record alone.
-fn print_same(moved: &[u8], whole: &[u8]) {
-    if check::same(moved, whole) {
-        io::write_all(1, b"same, ");
-        return;
-    }
-    io::write_all(1, b"DIFFERENT, ");
-}
-
 // Whether byte i of the store, b, is outside the record and changed.
 fn is_stray(i: usize, end: usize, b: u8) -> bool {
     if i < RECORD_AT {
@@ -89,19 +80,22 @@ fn has_stray(store: &[u8], end: usize) -> bool {
     false
 }
 
-fn print_outside(store: &[u8], end: usize) {
-    if has_stray(store, end) {
-        io::write_all(1, b"a byte outside the record CHANGED\n\n");
+fn print_verdict(same: bool, stray: bool) {
+    if stray {
+        io::write_all(1, b"a byte outside the record CHANGED\n");
         return;
     }
-    io::write_all(1, b"every byte outside the record stayed\n\n");
+    if same {
+        io::write_all(1, b"same, every byte outside the record stayed\n");
+        return;
+    }
+    io::write_all(1, b"DIFFERENT, every byte outside the record stayed\n");
 }
 
-// The record that the bursts left and the one that the reference left, and what the bursts left
-// outside it.
+// The record that the bursts left and the one that the reference left, whether they are the same,
+// and whether the bursts left the bytes outside it.
 pub fn report(moved: &[u8], whole: &[u8], end: usize) {
     print_bytes(b"bursts ", moved, RECORD_AT, end);
     print_bytes(b"whole  ", whole, RECORD_AT, end);
-    print_same(moved, whole);
-    print_outside(moved, end);
+    print_verdict(check::same(moved, whole), has_stray(moved, end));
 }
