@@ -3,7 +3,7 @@
 
 demo: kit
 	@rt check examples
-	@cat crates/examples/stdout
+	@target/bin/examples
 
 test: kit
 	@bash .ci/run
