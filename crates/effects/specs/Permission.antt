@@ -21,7 +21,7 @@ softwareOnly r = pick (isHardware r) NotPermitted Permitted
 abbrev pub hardwareOnly : List ℕ → Verdict
 hardwareOnly r = pick (isHardware r) Permitted NotPermitted
 
--- "SW2HW ..: the record must be software's. HW2SW ..: the record must be the hardware's"; RESIZE_CQ: "hardware's records
+-- "SW2HW ..: .. the record must be software's."; "HW2SW ..: the record must be the hardware's"; RESIZE_CQ: "hardware's records
 -- only"; QUERY_QP: "in any state"; the edges by their table
 abbrev pub commandPermits : Command → List ℕ → Verdict
 commandPermits (command.Sw2Hw o) r = softwareOnly r

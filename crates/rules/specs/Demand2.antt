@@ -1,4 +1,4 @@
--- DEMAND 2, the edges: "A queue pair's state moves only along permitted edges."
+-- DEMAND 2, the edges: a queue pair's state moves only along permitted edges.
 --
 -- What is claimed, and of what: after every initialisation and every list of calls, of the next call, whatever it is but another
 -- initialisation or reset that answers 0: the state code of every queue pair stays, or the call is the first step of a running

@@ -116,14 +116,15 @@ bookOf w = record { opened = true; bytes = λ X. pick (isRecord (w .hca .logs) X
 -- ---- The claim, of a run that began with the book b and has come to the world w and the journal J
 
 pub record Demand3 (b : Book) (w : World) (J : List Entry) : Type 0 where
-  -- "the finished requests, given one at a time and whole to 01's plain book in the order of acceptance, are all accepted"
+  -- the book accepts every finished request, given those accepted before it: "The book accepts a request when it gives it no number."
   pub accepts : (A B : List Done) (d : Done) → finishedIn w J ≡ A ++ d ∷ B → numberOf (d .what) (given b A) ≡ 0
-  -- "every record that nobody is writing .. is the book's", byte for byte
+  -- every record that nobody is writing is the book's, byte for byte
   pub records : (X : Record) → isRecord (w .hca .logs) X ≡ true → Unwritten w X J
       → recordOf (w .hca .logs) X (w .store) ≡ given b (finishedIn w J) .bytes X
-  -- "every answer .. is the book's"
+  -- the answer of every finished request is the book's
   pub answers : (A B : List Done) (d : Done) → finishedIn w J ≡ A ++ d ∷ B → replyOf (d .what) (given b A) ≡ d .gave
-  -- "every state refusal is the book's": from the book given the finished requests accepted before it and no others
+  -- "Refused because of its record's state": the same number from the book, given the finished requests accepted before it and no
+  -- others
   pub refusals : (A B : List Entry) (f : Fed) (n : ℕ) → J ≡ A ++ turnedAway f n ∷ B → numberOf f (given b (finishedIn w A)) ≡ n
 
 -- The statement: any store, row and room before the initialisation, any list of calls after it.

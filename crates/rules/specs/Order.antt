@@ -74,7 +74,7 @@ five a b c d e =
 abbrev pub short : List Line
 short = five (0x83 ∷ []) (0x83 ∷ []) (0x83 ∷ []) (0x83 ∷ []) (0x83 ∷ [])
 
--- "reset tests only row and room"
+-- "Reset tests only row and room"
 abbrev pub wrongStore : List Line
 wrongStore = five (0x83 ∷ []) (0x83 ∷ []) (0x83 ∷ []) (0x83 ∷ []) (0 ∷ [])
 
