@@ -53,7 +53,7 @@ writeByte p psn s i old = withState s i (psnByte (psnPlace p) psn i old)
 
 abbrev pub commandByte : Command → List ℕ → ℕ → ℕ → ℕ
 commandByte (command.Sw2Hw o) mail i old = sw2hwByte o mail i
--- "The record .. becomes zero."
+-- "the record .. becomes zero"
 commandByte (command.Hw2Sw o) mail i old = 0
 commandByte (command.ResizeCq n) mail i old = resizeByte mail i old
 commandByte (command.QueryQp n) mail i old = old
