@@ -15,10 +15,10 @@ use Rattle.tables.specs.Mailboxes.{needOf}
 use Rattle.effects.specs.Permission.{permissionOf}
 use Rattle.effects.specs.Content.{contentHolds}
 use Rattle.slots.specs.Slots.{slot, accepted}
-use Rattle.slots.specs.Rows.{lowestFree}
-use Rattle.slots.specs.Holds.{heldAgainst}
-use Rattle.slots.specs.declared.Found.{Found}
-use Rattle.slots.specs.declared.Found.the-variants.{At, Nothing}
+use Rattle.rows.specs.Rows.{lowestFree}
+use Rattle.rows.specs.Holds.{heldAgainst}
+use Rattle.rows.specs.declared.Found.{Found}
+use Rattle.rows.specs.declared.Found.the-variants.{At, Nothing}
 use Rattle.slots.specs.declared.Status.the-variants.{Free}
 use Rattle.rules.specs.declared.Refusal.{Refusal}
 use Rattle.rules.specs.declared.Refusal.the-variants as cause

@@ -3,7 +3,7 @@ use mathlib.Core.Path.{_≡_, refl}
 use mathlib.Core.Bool.{false}
 use mathlib.Core.List.{List, [], _∷_, _++_, map}
 use lib.ListN.{replicate}
-use Rattle.slots.specs.Slots.{emptyRow}
+use Rattle.rows.specs.Rows.{emptyRow}
 use Rattle.rules.specs.World.{world, hcaOf}
 use Rattle.rules.specs.Book.{Fed, onRecord, closeHca, nop, numberOf, gated, withRecord, afterRecord, afterOf}
 use Rattle.rules.specs.Calls.{engineRequest, step, collection, resetting, worldAfter}

@@ -22,7 +22,8 @@ use Rattle.requests.specs.declared.Op.the-variants as op
 use Rattle.requests.specs.declared.OpFound.{OpFound}
 use Rattle.requests.specs.declared.OpFound.the-variants.{Served, NotServed}
 use Rattle.requests.specs.declared.Request.the-variants as request
-use Rattle.slots.specs.Rows.{anySlot, isOccupied, hasCommand}
+use Rattle.slots.specs.Slots.{isOccupied, hasCommand}
+use Rattle.rows.specs.Rows.{anySlot}
 use Rattle.slots.specs.declared.Slot.{Slot}
 use Rattle.rules.specs.declared.Refusal.the-variants as cause
 use Rattle.rules.specs.declared.SubmitAnswer.the-variants as submit

@@ -13,7 +13,8 @@ use Rattle.requests.specs.declared.Command.the-variants as on
 use Rattle.requests.specs.declared.Engine.the-variants as engine
 use Rattle.requests.specs.declared.Request.{Request}
 use Rattle.requests.specs.declared.Request.the-variants as request
-use Rattle.slots.specs.Slots.{slot, emptyRow}
+use Rattle.slots.specs.Slots.{slot}
+use Rattle.rows.specs.Rows.{emptyRow}
 use Rattle.slots.specs.declared.Slot.{Slot}
 use Rattle.slots.specs.declared.Status.{Status}
 use Rattle.slots.specs.declared.Status.the-variants.{Free, Running, Finished}

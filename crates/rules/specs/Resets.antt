@@ -1,7 +1,7 @@
 -- Reset.
 use mathlib.Core.Bool.{false}
 use Rattle.words.specs.Choice.{pick}
-use Rattle.slots.specs.Slots.{emptyRow}
+use Rattle.rows.specs.Rows.{emptyRow}
 use Rattle.rules.specs.declared.Refusal.the-variants as cause
 use Rattle.rules.specs.declared.ResetAnswer.{ResetAnswer}
 use Rattle.rules.specs.declared.ResetAnswer.the-variants as reset

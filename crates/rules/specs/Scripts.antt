@@ -18,9 +18,8 @@ use Rattle.effects.specs.Fields.{stateOf, serviceOf, isHardware}
 use Rattle.answers.specs.Answers.{stateAnswer, nextAnswer, wholeAnswer}
 use Rattle.bursts.specs.Bytes.{withState, takenByte, edgeByte, sw2hwByte, resizeByte, psnByte, writeByte}
 use Rattle.bursts.specs.Moves.{writtenPart, writeAt, copyAt}
-use Rattle.slots.specs.Slots.{emptyRow}
-use Rattle.slots.specs.Rows.{anySlot, anyRest, lowestFree}
-use Rattle.slots.specs.Holds.{clashRecords, heldAgainst}
+use Rattle.rows.specs.Rows.{emptyRow, anySlot, anyRest, lowestFree}
+use Rattle.rows.specs.Holds.{clashRecords, heldAgainst}
 use Rattle.states.specs.Possible.{commandBefore, twoCommands, holdsClash, openImpossible, impossible}
 use Rattle.rules.specs.declared.SubmitAnswer.{SubmitAnswer}
 use Rattle.rules.specs.declared.SubmitAnswer.the-variants as submit

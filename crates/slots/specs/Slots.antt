@@ -1,11 +1,11 @@
--- A slot and its moves.
-use mathlib.Core.List.{List}
+-- A slot, its moves, and what is asked of it.
+use mathlib.Core.Bool.{Bool, true, false}
 use Prim.Native.Nat.{ℕ, _+_, _-_}
 use lib.Dec.{ltb}
-use lib.ListN.{replicate}
 use Rattle.words.specs.Choice.{pick}
 use Rattle.requests.specs.declared.Request.{Request}
 use Rattle.tables.specs.Bursts.{totalOf}
+use Rattle.tables.specs.Records.{isCommand}
 use Rattle.slots.specs.declared.Slot.{Slot}
 use Rattle.slots.specs.declared.Status.{Status}
 use Rattle.slots.specs.declared.Status.the-variants.{Free, Running, Finished}
@@ -17,10 +17,6 @@ slot s = record { status = s }
 abbrev pub accepted : Slot → Request → Slot
 accepted s q = slot (Running q 0)
 
--- "Collecting a finished slot frees it"
-abbrev pub freed : Slot → Slot
-freed s = slot Free
-
 -- one burst more: "The last one finishes the request."
 abbrev pub advancedStatus : Status → Status
 advancedStatus Free = Free
@@ -29,6 +25,10 @@ advancedStatus (Finished q m) = Finished q m
 
 abbrev pub advanced : Slot → Slot
 advanced s = slot (advancedStatus (s .status))
+
+-- "Collecting a finished slot frees it"
+abbrev pub freed : Slot → Slot
+freed s = slot Free
 
 -- "The step's answer has the bursts still to move": the burst table's total less the bursts moved
 abbrev pub leftStatus : Status → ℕ
@@ -39,6 +39,19 @@ leftStatus (Finished q m) = totalOf q - m
 abbrev pub leftOf : Slot → ℕ
 leftOf s = leftStatus (s .status)
 
--- "empties all slots"
-abbrev pub emptyRow : List Slot
-emptyRow = replicate 8 (slot Free)
+abbrev pub occupiedStatus : Status → Bool
+occupiedStatus Free = false
+occupiedStatus (Running q m) = true
+occupiedStatus (Finished q m) = true
+
+abbrev pub isOccupied : Slot → Bool
+isOccupied s = occupiedStatus (s .status)
+
+-- an uncollected command, running or finished
+abbrev pub commandStatus : Status → Bool
+commandStatus Free = false
+commandStatus (Running q m) = isCommand q
+commandStatus (Finished q m) = isCommand q
+
+abbrev pub hasCommand : Slot → Bool
+hasCommand s = commandStatus (s .status)

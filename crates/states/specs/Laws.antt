@@ -14,11 +14,11 @@ use Rattle.requests.specs.declared.Request.{Request}
 use Rattle.tables.specs.Records.{recordOf, writesOf, isCommand, psnHolds, numbersHold}
 use Rattle.tables.specs.Bursts.{totalOf}
 use Rattle.words.specs.Tests.{neither-left, neither-right}
-use Rattle.slots.specs.Slots.{slot, advanced, emptyRow}
-use Rattle.slots.specs.Rows.{anySlot, isOccupied, hasCommand}
-use Rattle.slots.specs.Holds.{clashPair, heldAgainst}
-use Rattle.slots.specs.Every.{at}
-use Rattle.slots.specs.Laws.{clash-one, clash-symmetric, none-occupied, no-writer}
+use Rattle.slots.specs.Slots.{slot, advanced, isOccupied, hasCommand}
+use Rattle.rows.specs.Rows.{emptyRow, anySlot}
+use Rattle.rows.specs.Holds.{clashPair, heldAgainst}
+use Rattle.rows.specs.Every.{at}
+use Rattle.rows.specs.Laws.{clash-one, clash-symmetric, none-occupied, no-writer}
 use Rattle.slots.specs.declared.Slot.{Slot}
 use Rattle.slots.specs.declared.Status.{Status}
 use Rattle.slots.specs.declared.Status.the-variants.{Free, Running, Finished}

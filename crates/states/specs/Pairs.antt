@@ -6,11 +6,11 @@ use mathlib.Core.List.{List}
 use Rattle.words.specs.Choice.{both}
 use Rattle.tables.specs.Records.{recordsOf, writesOf}
 use Rattle.words.specs.Tests.{both-swap, both-false}
-use Rattle.slots.specs.Slots.{slot}
-use Rattle.slots.specs.Rows.{anySlot, hasCommand}
-use Rattle.slots.specs.Holds.{clashStatus, heldAgainst}
-use Rattle.slots.specs.Every.{NoTwo, none-pairs, pairs-none, each-none}
-use Rattle.slots.specs.Laws.{clash-one, clash-symmetric}
+use Rattle.slots.specs.Slots.{slot, hasCommand}
+use Rattle.rows.specs.Rows.{anySlot}
+use Rattle.rows.specs.Holds.{clashStatus, heldAgainst}
+use Rattle.rows.specs.Every.{NoTwo, none-pairs, pairs-none, each-none}
+use Rattle.rows.specs.Laws.{clash-one, clash-symmetric}
 use Rattle.slots.specs.declared.Slot.{Slot}
 use Rattle.slots.specs.declared.Status.{Status}
 use Rattle.slots.specs.declared.Status.the-variants.{Free, Running, Finished}

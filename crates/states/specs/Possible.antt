@@ -13,8 +13,9 @@ use Rattle.states.specs.declared.Hca.{Hca}
 use Rattle.slots.specs.declared.Slot.{Slot}
 use Rattle.slots.specs.declared.Status.{Status}
 use Rattle.slots.specs.declared.Status.the-variants.{Free, Running, Finished}
-use Rattle.slots.specs.Rows.{anySlot, anyRest, isOccupied, hasCommand}
-use Rattle.slots.specs.Holds.{heldAgainst}
+use Rattle.slots.specs.Slots.{isOccupied, hasCommand}
+use Rattle.rows.specs.Rows.{anySlot, anyRest}
+use Rattle.rows.specs.Holds.{heldAgainst}
 
 -- "a slot's request .. whose .. index, PSN or state would get 2 or 3 ..; bursts moved not below (running) or not equal to
 -- (finished) its total"

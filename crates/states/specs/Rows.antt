@@ -14,12 +14,12 @@ use Rattle.requests.specs.declared.Request.{Request}
 use Rattle.tables.specs.Records.{numbersHold, isCommand}
 use Rattle.tables.specs.Bursts.{totalOf}
 use Rattle.words.specs.Tests.{neither-left, neither-right, neither, both-false}
-use Rattle.slots.specs.Slots.{slot, advancedStatus, advanced}
-use Rattle.slots.specs.Rows.{anySlot, isOccupied, commandStatus, hasCommand}
-use Rattle.slots.specs.Holds.{heldAgainst}
+use Rattle.slots.specs.Slots.{slot, advancedStatus, advanced, isOccupied, commandStatus, hasCommand}
+use Rattle.rows.specs.Rows.{anySlot}
+use Rattle.rows.specs.Holds.{heldAgainst}
 use Rattle.tables.specs.Totals.{total-positive}
-use Rattle.slots.specs.Every.{at, None, NoTwo, none-each, each-none, none-set, pairs-set}
-use Rattle.slots.specs.Laws.{held-each, none-occupied, none-command}
+use Rattle.rows.specs.Every.{at, None, NoTwo, none-each, each-none, none-set, pairs-set}
+use Rattle.rows.specs.Laws.{held-each, none-occupied, none-command}
 use Rattle.slots.specs.declared.Slot.{Slot}
 use Rattle.slots.specs.declared.Status.{Status}
 use Rattle.slots.specs.declared.Status.the-variants.{Free, Running, Finished}

@@ -2,7 +2,8 @@
 use mathlib.Core.Path.{_≡_}
 use mathlib.Core.Bool.{Bool, true, false}
 use mathlib.Core.List.{List}
-use Rattle.slots.specs.Rows.{anySlot, hasCommand}
+use Rattle.slots.specs.Slots.{hasCommand}
+use Rattle.rows.specs.Rows.{anySlot}
 use Rattle.slots.specs.declared.Slot.{Slot}
 use Rattle.states.specs.Possible.{commandBefore}
 

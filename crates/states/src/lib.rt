@@ -7,7 +7,7 @@ ghost use mathlib.Core.Path.{_≡_};
 ghost use Prim.Native.Nat.{_+_, _<_};
 ghost use lib.ListN.{getD, drop};
 ghost use Rattle.slots.specs.Slots.{slot};
-ghost use Rattle.slots.specs.Rows.{anySlot};
+ghost use Rattle.rows.specs.Rows.{anySlot};
 ghost use Rattle.slots.specs.declared.Status.the-variants.{Free};
 ghost use Rattle.states.specs.Possible.{runningWrong, finishedWrong, statusWrong, slotWrong, twoCommands, clashBefore, holdsClash, openImpossible, impossible};
 
@@ -68,7 +68,7 @@ fn two_commands(row: [Slot; 8]) -> bool
         if !slots::has_command(row[i]) {
             continue;
         }
-        if slots::command_from(row, i + 1) {
+        if rows::command_from(row, i + 1) {
             return true;
         }
     }
@@ -84,7 +84,7 @@ fn clashes_behind(row: [Slot; 8], i: usize) -> bool
     let status = slot.status;
     match status {
         Status::Free => false,
-        Status::Running(request, _) => slots::held_from(row, i + 1, request),
+        Status::Running(request, _) => rows::held_from(row, i + 1, request),
         Status::Finished(_, _) => false,
     }
 }
@@ -119,7 +119,7 @@ pub fn is_impossible(hca: Hca, row: [Slot; 8]) -> bool
     ensures { λ r. ⌜ r ≡ impossible hca row ⌝ }
 {
     if !hca.open {
-        return slots::any_occupied(row);
+        return rows::any_occupied(row);
     }
     let logs = hca.logs;
     open_impossible(logs, hca.store_len, row)

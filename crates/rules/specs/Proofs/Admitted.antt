@@ -32,11 +32,11 @@ use Rattle.bursts.specs.Copies.{copies, length-copies, copies-in}
 use Rattle.bursts.specs.Table.{bursts-fit, bursts-room, need-small}
 use Rattle.bursts.specs.Effects.{writes-whole}
 use Rattle.slots.specs.Slots.{slot}
-use Rattle.slots.specs.Rows.{lowestFree}
-use Rattle.slots.specs.Holds.{clashPair, heldAgainst}
-use Rattle.slots.specs.Laws.{held-none, no-writer, Lowest, lowest-free-is}
-use Rattle.slots.specs.declared.Found.{Found}
-use Rattle.slots.specs.declared.Found.the-variants.{At, Nothing}
+use Rattle.rows.specs.Rows.{lowestFree}
+use Rattle.rows.specs.Holds.{clashPair, heldAgainst}
+use Rattle.rows.specs.Laws.{held-none, no-writer, Lowest, lowest-free-is}
+use Rattle.rows.specs.declared.Found.{Found}
+use Rattle.rows.specs.declared.Found.the-variants.{At, Nothing}
 use Rattle.slots.specs.declared.Slot.{Slot}
 use Rattle.slots.specs.declared.Status.{Status}
 use Rattle.slots.specs.declared.Status.the-variants.{Free, Running, Finished}

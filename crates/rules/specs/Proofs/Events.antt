@@ -36,10 +36,10 @@ use Rattle.requests.specs.declared.Request.{Request}
 use Rattle.requests.specs.declared.Request.the-variants as request
 use Rattle.answers.specs.Answers.{answerSize}
 use Rattle.answers.specs.Laws.{length-answer}
-use Rattle.slots.specs.Slots.{slot, freed as freedSlot}
+use Rattle.slots.specs.Slots.{slot, freed as freedSlot, isOccupied, hasCommand, occupiedStatus}
 use Rattle.words.specs.Tests.{neither-left, neither-right}
-use Rattle.slots.specs.Every.{none-each}
-use Rattle.slots.specs.Rows.{anySlot, isOccupied, hasCommand, occupiedStatus}
+use Rattle.rows.specs.Every.{none-each}
+use Rattle.rows.specs.Rows.{anySlot}
 use Rattle.slots.specs.declared.Slot.{Slot}
 use Rattle.slots.specs.declared.Status.{Status}
 use Rattle.slots.specs.declared.Status.the-variants.{Free, Running, Finished}

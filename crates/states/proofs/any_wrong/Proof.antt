@@ -4,8 +4,8 @@ use Prim.Native.Nat.{_≤_, _-_}
 use borrow.Author.Needs.{needs}
 use lib.ListN.{drop}
 use Rattle.words.specs.Choice.{told}
-use Rattle.slots.specs.Scans.{any-more, any-found, any-none}
-use Rattle.slots.specs.Rows.{anySlot}
+use Rattle.rows.specs.Scans.{any-more, any-found, any-none}
+use Rattle.rows.specs.Rows.{anySlot}
 use Rattle.states.specs.Possible.{slotWrong}
 use Rattle.states.proofs.any_wrong.Statement.{statement}
 use Rattle.states.proofs.any_wrong.Tie as tie

@@ -4,8 +4,8 @@ use Prim.Native.Nat.{_≤_, _-_}
 use borrow.Author.Needs.{needs}
 use lib.ListN.{drop}
 use Rattle.words.specs.Choice.{told}
-use Rattle.slots.specs.Scans.{rest-more, rest-found, rest-none}
-use Rattle.slots.specs.Rows.{anyRest}
+use Rattle.rows.specs.Scans.{rest-more, rest-found, rest-none}
+use Rattle.rows.specs.Rows.{anyRest}
 use Rattle.states.specs.Possible.{clashBefore, holdsClash}
 use Rattle.states.proofs.holds_clash.Statement.{statement}
 use Rattle.states.proofs.holds_clash.Tie as tie

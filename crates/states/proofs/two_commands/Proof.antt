@@ -6,8 +6,8 @@ use borrow.Author.Tests.{not-true, not-false}
 use borrow.Author.Needs.{needs}
 use lib.ListN.{drop}
 use Rattle.words.specs.Choice.{told}
-use Rattle.slots.specs.Scans.{rest-more, rest-found, rest-none}
-use Rattle.slots.specs.Rows.{anyRest}
+use Rattle.rows.specs.Scans.{rest-more, rest-found, rest-none}
+use Rattle.rows.specs.Rows.{anyRest}
 use Rattle.states.specs.Turns.{no-command, command-before}
 use Rattle.states.specs.Possible.{commandBefore, twoCommands}
 use Rattle.states.proofs.two_commands.Statement.{statement}

@@ -1,9 +1,9 @@
--- `slots::clashes` meets its contract.
+-- `rows::clashes` meets its contract.
 use borrow.Author.Tests.{not-true, not-false}
 use borrow.Author.Needs.{needs}
 use Rattle.words.specs.Choice.{cases}
-use Rattle.slots.proofs.clashes.Statement.{statement}
-use Rattle.slots.proofs.clashes.Tie as tie
+use Rattle.rows.proofs.clashes.Statement.{statement}
+use Rattle.rows.proofs.clashes.Tie as tie
 
 record-of-requires : tie.Need-record-of-requires
 record-of-requires c κs = search needs

@@ -9,12 +9,12 @@ use native.Mathlib.Omega.{arith}
 use lib.ListN.{length, getD, drop, drop-of-length-le}
 use lib.Seq.{drop-cons}
 use Rattle.words.specs.Choice.{pick, either}
-use Rattle.slots.specs.Slots.{slot}
-use Rattle.slots.specs.Rows.{anySlot, anyRest, isOccupied, lowestFree}
+use Rattle.slots.specs.Slots.{slot, isOccupied}
+use Rattle.rows.specs.Rows.{anySlot, anyRest, lowestFree}
 use Rattle.slots.specs.declared.Slot.{Slot}
 use Rattle.slots.specs.declared.Status.the-variants.{Free}
-use Rattle.slots.specs.declared.Found.{Found}
-use Rattle.slots.specs.declared.Found.the-variants.{At, Nothing}
+use Rattle.rows.specs.declared.Found.{Found}
+use Rattle.rows.specs.declared.Found.the-variants.{At, Nothing}
 
 -- ---- a slot that passes a test
 

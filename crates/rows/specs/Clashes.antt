@@ -12,11 +12,11 @@ use Rattle.context.specs.declared.Record.{Record}
 use Rattle.context.specs.declared.Record.the-variants as rec
 use Rattle.requests.specs.declared.Request.{Request}
 use Rattle.tables.specs.Records.{recordsOf, writesOf}
-use Rattle.slots.specs.Rows.{anySlot}
-use Rattle.slots.specs.Holds.{clashPair, clashRecords, clashStatus, clashSlot, heldAgainst}
+use Rattle.rows.specs.Rows.{anySlot}
+use Rattle.rows.specs.Holds.{clashPair, clashRecords, clashStatus, clashSlot, heldAgainst}
 use Rattle.slots.specs.declared.Slot.{Slot}
 use Rattle.slots.specs.declared.Status.{Status}
 use Rattle.slots.specs.declared.Status.the-variants.{Running}
 
 -- what an array of records has past its end
 abbrev no-record : Record

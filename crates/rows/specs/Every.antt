@@ -10,10 +10,10 @@ use native.Mathlib.Omega.{arith}
 use lib.ListN.{getD, set}
 use lib.Seq.{getD-set-other}
 use Rattle.words.specs.Tests.{neither-left, neither-right, neither}
 use Rattle.slots.specs.Slots.{slot}
-use Rattle.slots.specs.Rows.{anySlot, anyRest}
+use Rattle.rows.specs.Rows.{anySlot, anyRest}
 use Rattle.slots.specs.declared.Slot.{Slot}
 use Rattle.slots.specs.declared.Status.the-variants.{Free}
 
 -- slot k of a row
 abbrev pub at : List Slot → ℕ → Slot

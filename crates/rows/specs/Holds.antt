@@ -6,10 +6,10 @@ use Rattle.context.specs.Layout.{sameRecord}
 use Rattle.context.specs.declared.Record.{Record}
 use Rattle.requests.specs.declared.Request.{Request}
 use Rattle.tables.specs.Records.{recordOf, recordsOf, writesOf}
 use Rattle.slots.specs.declared.Slot.{Slot}
 use Rattle.slots.specs.declared.Status.{Status}
 use Rattle.slots.specs.declared.Status.the-variants.{Free, Running, Finished}
-use Rattle.slots.specs.Rows.{anySlot}
+use Rattle.rows.specs.Rows.{anySlot}
 
 -- the running request q holds the record X against a request that writes it or not
 abbrev pub clashPair : Request → Bool → Record → Bool

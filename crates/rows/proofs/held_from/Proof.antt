@@ -1,4 +1,4 @@
--- `slots::held_from` meets its contract. Both loops keep that what is left decides: of the row the outer one, of the
+-- `rows::held_from` meets its contract. Both loops keep that what is left decides: of the row the outer one, of the
 -- request's records the inner one.
 use types.Run.{OneOf}
 use denote.Enum.Declared.{tagOf, declared}
@@ -13,16 +13,16 @@ use borrow.Author.Needs.{needs}
 use lib.ListN.{length, getD, drop}
 use Rattle.words.specs.Choice.{told}
 use Rattle.context.specs.declared.Record.{Record}
 use Rattle.slots.specs.declared.Status.the-variants.{Free, Running, Finished}
 use Rattle.slots.specs.declared.Status.{Status}
-use Rattle.slots.specs.Clashes.{records-more, records-found, records-none, running-is, held-is}
-use Rattle.slots.specs.Scans.{any-more, any-found, any-none}
-use Rattle.slots.specs.Holds.{clashRecords, clashStatus, clashSlot}
+use Rattle.rows.specs.Clashes.{records-more, records-found, records-none, running-is, held-is}
+use Rattle.rows.specs.Scans.{any-more, any-found, any-none}
+use Rattle.rows.specs.Holds.{clashRecords, clashStatus, clashSlot}
 use Rattle.slots.specs.Slots.{slot}
-use Rattle.slots.specs.Rows.{anySlot}
+use Rattle.rows.specs.Rows.{anySlot}
 use Rattle.slots.proofs.Status as Status'
-use Rattle.slots.proofs.held_from.Statement.{statement}
-use Rattle.slots.proofs.held_from.Tie as tie
+use Rattle.rows.proofs.held_from.Statement.{statement}
+use Rattle.rows.proofs.held_from.Tie as tie
 
 -- a status whose tag is not a running one's
 not-running : (s : Status) (w : Bool) (Xs : List Record) → OneOf (0 ∷ 2 ∷ []) (tagOf (declared Status'.enum) s) → clashStatus w Xs s ≡ false

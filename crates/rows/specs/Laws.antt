@@ -13,14 +13,14 @@ use Rattle.context.specs.declared.Record.{Record}
 use Rattle.requests.specs.declared.Request.{Request}
 use Rattle.tables.specs.Records.{recordOf, recordsOf, writesOf}
 use Rattle.words.specs.Tests.{neither-left, either-swap, either-false, eqb-swap}
-use Rattle.slots.specs.Slots.{slot}
-use Rattle.slots.specs.Rows.{anySlot, occupiedStatus, isOccupied, hasCommand, lowestFree}
-use Rattle.slots.specs.Holds.{clashPair, clashRecords, clashStatus, clashSlot, heldAgainst}
-use Rattle.slots.specs.Every.{at, None, none-each, each-none}
+use Rattle.slots.specs.Slots.{slot, occupiedStatus, isOccupied, hasCommand}
+use Rattle.rows.specs.Rows.{anySlot, lowestFree}
+use Rattle.rows.specs.Holds.{clashPair, clashRecords, clashStatus, clashSlot, heldAgainst}
+use Rattle.rows.specs.Every.{at, None, none-each, each-none}
 use Rattle.slots.specs.declared.Slot.{Slot}
 use Rattle.slots.specs.declared.Status.{Status}
 use Rattle.slots.specs.declared.Status.the-variants.{Free, Running, Finished}
-use Rattle.slots.specs.declared.Found.the-variants.{At, Nothing}
+use Rattle.rows.specs.declared.Found.the-variants.{At, Nothing}
 
 -- ---- holds
 

@@ -1,16 +1,16 @@
--- `slots::any_occupied` meets its contract. The loop keeps that what is left of the row decides.
+-- `rows::lowest_free` meets its contract. The loop keeps that what is left of the row decides.
 use mathlib.Core.Path.{_≡_}
 use Prim.Native.Nat.{_≤_, _-_}
 use borrow.Author.Needs.{needs}
 use lib.ListN.{drop}
 use Rattle.words.specs.Choice.{told}
-use Rattle.slots.specs.Scans.{any-more, any-found, any-none}
-use Rattle.slots.specs.Rows.{anySlot, isOccupied}
-use Rattle.slots.proofs.any_occupied.Statement.{statement}
-use Rattle.slots.proofs.any_occupied.Tie as tie
+use Rattle.rows.specs.Scans.{free-more, free-found, free-none}
+use Rattle.rows.specs.Rows.{lowestFree}
+use Rattle.rows.proofs.lowest_free.Statement.{statement}
+use Rattle.rows.proofs.lowest_free.Tie as tie
 
 abbrev Inv-loop : tie.InvT-loop
-Inv-loop row i₀ i = (i ≤ 8) × (anySlot isOccupied (drop i row) ≡ anySlot isOccupied row)
+Inv-loop row i₀ i = (i ≤ 8) × (lowestFree i (drop i row) ≡ lowestFree 0 row)
 
 abbrev μ-loop : tie.MeasureT-loop
 μ-loop row i₀ i = 8 - i
@@ -27,9 +27,6 @@ array-copy-out-is-occupied c = search needs
 is-occupied-requires : tie.Need-is-occupied-requires Inv-loop μ-loop
 is-occupied-requires c κs = search needs
 
-returns : tie.Need-returns Inv-loop μ-loop
-returns c = search (needs, told, any-found)
-
 add-i : tie.Need-add-i Inv-loop μ-loop
 add-i c = search needs
 
@@ -37,13 +34,16 @@ loop-less : tie.Need-loop-less Inv-loop μ-loop
 loop-less c = search needs
 
 loop-again : tie.Need-loop-again Inv-loop μ-loop
-loop-again c = search (needs, told, any-more)
+loop-again c = search (needs, told, free-more)
+
+returns : tie.Need-returns Inv-loop μ-loop
+returns c = search (needs, told, free-found)
 
 returns-2 : tie.Need-returns-2 Inv-loop μ-loop
-returns-2 c = search (needs, any-none)
+returns-2 c = search (needs, free-none)
 
-pub any-occupied-spec : {M : Type 1} → statement M
-any-occupied-spec =
+pub lowest-free-spec : {M : Type 1} → statement M
+lowest-free-spec =
     tie.close
     (tie.spec
     Inv-loop
@@ -52,8 +52,8 @@ any-occupied-spec =
     mul-is-occupied
     array-copy-out-is-occupied
     is-occupied-requires
-    returns
     add-i
     loop-less
     loop-again
+    returns
     returns-2)
