@@ -15,9 +15,9 @@ use Rattle.requests.specs.declared.Engine.{Engine}
 use Rattle.requests.specs.declared.Engine.the-variants as engine
 use Rattle.requests.specs.declared.Request.{Request}
 use Rattle.requests.specs.declared.Request.the-variants as request
-use Rattle.tables.specs.Bursts.{burstSize, burstsFrom, commandBursts, engineBursts, burstsOf}
+use Rattle.burst_table.specs.Bursts.{burstSize, burstsFrom, commandBursts, engineBursts, burstsOf}
 use Rattle.effects.specs.Fields.{stateOf}
-use Rattle.tables.specs.Touched.{Touched}
+use Rattle.burst_table.specs.Touched.{Touched}
 use Rattle.answers.specs.Answers.{stateAnswer, nextAnswer, wholeAnswer, commandAnswer, engineAnswer, answerOf, commandAnswerSize, engineAnswerSize, answerSize}
 
 length-command : (c : Command) (p : List ℕ) → 256 ≤ length p → length (commandAnswer c p) ≡ commandAnswerSize c

@@ -11,7 +11,7 @@ use lib.ListN.{length, getD, drop}
 use lib.Seq.{ext-getD, drop-cons}
 use Rattle.words.specs.Parts.{part, splice, length-part, getD-part, length-splice, splice-below, splice-in, splice-above}
 use Rattle.words.specs.Maps.{mapFrom, length-mapFrom, getD-mapFrom}
-use Rattle.tables.specs.Touched.{Inside, Touched}
+use Rattle.burst_table.specs.Touched.{Inside, Touched}
 
 -- every burst lies in n bytes
 abbrev pub Fit : ℕ → List ℕ → Type 0

@@ -17,7 +17,7 @@ use Rattle.requests.specs.declared.Engine.the-variants as engine
 use Rattle.requests.specs.declared.Request.{Request}
 use Rattle.requests.specs.declared.Request.the-variants as request
 use Rattle.tables.specs.Mailboxes.{storedOf}
-use Rattle.tables.specs.Bursts.{psnPlace}
+use Rattle.burst_table.specs.Bursts.{psnPlace}
 use Rattle.bursts.specs.Taken.{takes, wordOf, zeroes}
 
 -- "the state is set": bits 31:28 of word 00h, the top half of byte 0

@@ -8,7 +8,7 @@ use native.Mathlib.Omega.{arith}
 use lib.ListN.{length, getD, drop}
 use lib.Seq.{ext-getD, drop-cons}
 use Rattle.words.specs.Parts.{part, splice, length-part, getD-part, length-splice, splice-below, splice-in, splice-above}
-use Rattle.tables.specs.Touched.{Inside, Touched}
+use Rattle.burst_table.specs.Touched.{Inside, Touched}
 use Rattle.bursts.specs.Bursts.{Fit, inside?}
 
 -- "A read burst is copied to the offset in that part which it has in the record": burst j of the record c goes to the buffer

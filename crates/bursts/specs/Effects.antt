@@ -24,8 +24,8 @@ use Rattle.requests.specs.declared.Engine.the-variants as engine
 use Rattle.requests.specs.declared.Request.{Request}
 use Rattle.requests.specs.declared.Request.the-variants as request
 use Rattle.tables.specs.Records.{ownedRecord, recordOf, writesOf}
-use Rattle.tables.specs.Bursts.{psnPlace, burstsFrom, psnBursts, burstsOf}
-use Rattle.tables.specs.Touched.{Inside, Touched}
+use Rattle.burst_table.specs.Bursts.{psnPlace, burstsFrom, psnBursts, burstsOf}
+use Rattle.burst_table.specs.Touched.{Inside, Touched}
 use Rattle.bursts.specs.Bursts.{burst, after, burst-in, after-whole}
 use Rattle.bursts.specs.Bytes.{withState, takenByte, edgeByte, psnByte, writeByte, byteOf}
 use Rattle.bursts.specs.Table.{all-touched, bursts-fit, bursts-once}

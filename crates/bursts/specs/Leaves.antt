@@ -22,7 +22,7 @@ use Rattle.requests.specs.declared.Psn.{Psn}
 use Rattle.requests.specs.declared.Psn.the-variants.{NextSend, LastAcked, Expected}
 use Rattle.requests.specs.declared.Request.{Request}
 use Rattle.tables.specs.Mailboxes.{edgeNeed, needOf}
-use Rattle.tables.specs.Bursts.{psnPlace}
+use Rattle.burst_table.specs.Bursts.{psnPlace}
 use Rattle.bursts.specs.Bytes.{withState, takenByte, edgeByte, byteOf}
 use Rattle.bursts.specs.Moves.{writtenPart, writeAt, copyAt}
 use Rattle.bursts.specs.Taken.{takes, wordOf, zeroes}

@@ -4,7 +4,7 @@ use Prim.Native.Nat.{ℕ}
 use Rattle.words.specs.Parts.{part, splice}
 use Rattle.words.specs.Maps.{mapFrom}
 use Rattle.requests.specs.declared.Request.{Request}
-use Rattle.tables.specs.Bursts.{burstSize}
+use Rattle.burst_table.specs.Bursts.{burstSize}
 use Rattle.bursts.specs.Bytes.{byteOf}
 
 -- a part of a record that starts at offset first, after the write

@@ -10,7 +10,7 @@ use Rattle.words.specs.Parts.{part, splice, length-part, length-splice, splice-
 use Rattle.context.specs.Layout.{recordSize}
 use Rattle.requests.specs.declared.Request.{Request}
 use Rattle.tables.specs.Records.{recordOf}
-use Rattle.tables.specs.Bursts.{burstsOf, totalOf, offsetOf}
+use Rattle.burst_table.specs.Bursts.{burstsOf, totalOf, offsetOf}
 use Rattle.bursts.specs.Bytes.{byteOf}
 use Rattle.bursts.specs.Moves.{writtenPart, writeAt, copyAt}
 use Rattle.bursts.specs.Leaves.{length-writtenPart}

@@ -23,9 +23,9 @@ use Rattle.requests.specs.declared.Request.{Request}
 use Rattle.requests.specs.declared.Request.the-variants as request
 use Rattle.tables.specs.Records.{ownedRecord, recordOf, writesOf}
 use Rattle.tables.specs.Mailboxes.{storedOf, edgeNeed, needOf}
-use Rattle.tables.specs.Totals.{owned-size}
-use Rattle.tables.specs.Bursts.{burstsFrom, psnBursts, burstsOf, totalOf, offsetOf}
-use Rattle.tables.specs.Touched.{Touched}
+use Rattle.tables.specs.Sizes.{owned-size}
+use Rattle.burst_table.specs.Bursts.{burstsFrom, psnBursts, burstsOf, totalOf, offsetOf}
+use Rattle.burst_table.specs.Touched.{Touched}
 use Rattle.bursts.specs.Bursts.{Fit, Fresh, Distinct, fit-at}
 
 -- Bursts in a row: those of a record that is moved whole.

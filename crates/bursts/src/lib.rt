@@ -167,7 +167,11 @@ fn psn_byte(word: usize, psn: u32, at: usize, old: u8) -> u8
 fn write_byte(which: Psn, psn: u32, to: State, at: usize, old: u8) -> u8
     ensures { λ r. ⌜ r ≡ writeByte which psn to at old ⌝ }
 {
-    with_state(to, at, psn_byte(tables::psn_place(which), psn, at, old))
+    with_state(
+        to,
+        at,
+        psn_byte(burst_table::psn_place(which), psn, at, old),
+    )
 }
 
 fn command_byte(command: Command, image: &[u8], at: usize, old: u8) -> u8

@@ -13,7 +13,7 @@ use Rattle.context.specs.Layout.{isRecord, recordOf, recordSize}
 use Rattle.context.specs.declared.Record.{Record}
 use Rattle.requests.specs.declared.Request.{Request}
 use Rattle.tables.specs.Records.{recordOf as touched, writesOf}
-use Rattle.tables.specs.Bursts.{burstsOf, totalOf}
+use Rattle.burst_table.specs.Bursts.{burstsOf, totalOf}
 use Rattle.bursts.specs.Bytes.{byteOf}
 use Rattle.bursts.specs.Bursts.{burst}
 use Rattle.slots.specs.declared.Status.the-variants.{Running}

@@ -6,7 +6,7 @@ use Rattle.words.specs.Choice.{pick}
 use Rattle.context.specs.Layout.{recordAt}
 use Rattle.requests.specs.declared.Request.{Request}
 use Rattle.tables.specs.Records.{recordOf as touched, writesOf}
-use Rattle.tables.specs.Bursts.{offsetOf}
+use Rattle.burst_table.specs.Bursts.{offsetOf}
 use Rattle.bursts.specs.Moves.{writeAt, copyAt}
 use Rattle.slots.specs.Slots.{slot, advanced, leftOf}
 use Rattle.slots.specs.declared.Slot.{Slot}

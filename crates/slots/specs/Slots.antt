@@ -4,7 +4,7 @@ use Prim.Native.Nat.{ℕ, _+_, _-_}
 use lib.Dec.{ltb}
 use Rattle.words.specs.Choice.{pick}
 use Rattle.requests.specs.declared.Request.{Request}
-use Rattle.tables.specs.Bursts.{totalOf}
+use Rattle.burst_table.specs.Bursts.{totalOf}
 use Rattle.tables.specs.Records.{isCommand}
 use Rattle.slots.specs.declared.Slot.{Slot}
 use Rattle.slots.specs.declared.Status.{Status}

@@ -4,8 +4,8 @@ use Prim.Native.Nat.{ℕ, _+_, _-_, _≤_, _<_}
 use native.Mathlib.Omega.{arith}
 use borrow.Author.Tests.{lt-ltb, le-ltb}
 use Rattle.requests.specs.declared.Request.{Request}
-use Rattle.tables.specs.Totals.{total-positive}
-use Rattle.tables.specs.Bursts.{totalOf}
+use Rattle.burst_table.specs.Totals.{total-positive}
+use Rattle.burst_table.specs.Bursts.{totalOf}
 use Rattle.slots.specs.Slots.{advancedStatus}
 use Rattle.slots.specs.declared.Status.{Status}
 use Rattle.slots.specs.declared.Status.the-variants.{Running, Finished}

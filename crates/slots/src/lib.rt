@@ -2,7 +2,7 @@
 use requests::Request;
 ghost use mathlib.Core.Path.{_≡_};
 ghost use Prim.Native.Nat.{_-_};
-ghost use Rattle.tables.specs.Bursts.{totalOf};
+ghost use Rattle.burst_table.specs.Bursts.{totalOf};
 ghost use Rattle.slots.specs.Slots.{accepted, freed, advancedStatus, advanced, leftStatus, leftOf, isOccupied, hasCommand};
 
 // A slot is free, running with its request, or finished with its request; the number is that of the
@@ -21,7 +21,7 @@ pub struct Slot {
 fn left(request: Request, moved: u8) -> u8
     ensures { λ r. ⌜ r ≡ totalOf request - moved ⌝ }
 {
-    let total = tables::total(request);
+    let total = burst_table::total(request);
     if total < moved {
         return 0;
     }
@@ -36,7 +36,7 @@ impl Status {
         match self {
             Status::Free => self,
             Status::Running(request, moved) => {
-                let total = tables::total(request);
+                let total = burst_table::total(request);
                 if moved < total - 1 {
                     return Status::Running(request, moved + 1);
                 }

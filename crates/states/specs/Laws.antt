@@ -12,7 +12,7 @@ use Rattle.context.specs.Layout.{isRecord, fitsStore}
 use Rattle.context.specs.declared.Logs.{Logs}
 use Rattle.requests.specs.declared.Request.{Request}
 use Rattle.tables.specs.Records.{recordOf, writesOf, isCommand, psnHolds, numbersHold}
-use Rattle.tables.specs.Bursts.{totalOf}
+use Rattle.burst_table.specs.Bursts.{totalOf}
 use Rattle.words.specs.Tests.{neither-left, neither-right}
 use Rattle.slots.specs.Slots.{slot, advanced, isOccupied, hasCommand}
 use Rattle.rows.specs.Rows.{emptyRow, anySlot}

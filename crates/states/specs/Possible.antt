@@ -8,7 +8,7 @@ use Rattle.context.specs.Layout.{fitsStore}
 use Rattle.context.specs.declared.Logs.{Logs}
 use Rattle.requests.specs.declared.Request.{Request}
 use Rattle.tables.specs.Records.{numbersHold}
-use Rattle.tables.specs.Bursts.{totalOf}
+use Rattle.burst_table.specs.Bursts.{totalOf}
 use Rattle.states.specs.declared.Hca.{Hca}
 use Rattle.slots.specs.declared.Slot.{Slot}
 use Rattle.slots.specs.declared.Status.{Status}

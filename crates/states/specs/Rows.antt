@@ -12,12 +12,12 @@ use Rattle.context.specs.Layout.{fitsStore}
 use Rattle.context.specs.declared.Logs.{Logs}
 use Rattle.requests.specs.declared.Request.{Request}
 use Rattle.tables.specs.Records.{numbersHold, isCommand}
-use Rattle.tables.specs.Bursts.{totalOf}
+use Rattle.burst_table.specs.Bursts.{totalOf}
 use Rattle.words.specs.Tests.{neither-left, neither-right, neither, both-false}
 use Rattle.slots.specs.Slots.{slot, advancedStatus, advanced, isOccupied, commandStatus, hasCommand}
 use Rattle.rows.specs.Rows.{anySlot}
 use Rattle.rows.specs.Holds.{heldAgainst}
-use Rattle.tables.specs.Totals.{total-positive}
+use Rattle.burst_table.specs.Totals.{total-positive}
 use Rattle.rows.specs.Every.{at, None, NoTwo, none-each, each-none, none-set, pairs-set}
 use Rattle.rows.specs.Laws.{held-each, none-occupied, none-command}
 use Rattle.slots.specs.declared.Slot.{Slot}

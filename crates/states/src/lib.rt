@@ -26,7 +26,7 @@ fn running_wrong(logs: Logs, request: Request, moved: u8) -> bool
     if !tables::numbers_hold(request, logs) {
         return true;
     }
-    !(moved < tables::total(request))
+    !(moved < burst_table::total(request))
 }
 
 // A request whose index or PSN is wrong, or that has not moved its bursts.
@@ -36,7 +36,7 @@ fn finished_wrong(logs: Logs, request: Request, moved: u8) -> bool
     if !tables::numbers_hold(request, logs) {
         return true;
     }
-    moved != tables::total(request)
+    moved != burst_table::total(request)
 }
 
 fn slot_wrong(logs: Logs, slot: Slot) -> bool

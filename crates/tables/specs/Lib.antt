@@ -1,6 +1,4 @@
--- The request table of document 01.
+-- The request table of document 01: records and mailboxes.
 pub mod Records
 pub mod Mailboxes
-pub mod Bursts
-pub mod Totals
-pub mod Touched
+pub mod Sizes

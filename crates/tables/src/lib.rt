@@ -1,18 +1,14 @@
-// The request table: for each request its record, whether it writes, the mailbox bytes it needs,
-// and its bursts.
+// The request table: for each request its record, whether it writes, and the mailbox bytes it needs.
 use context::Logs;
 use context::Record;
 use edges::Edge;
 use requests::Command;
 use requests::Engine;
 use requests::Owned;
-use requests::Psn;
 use requests::Request;
 ghost use mathlib.Core.Path.{_≡_};
-ghost use Prim.Native.Nat.{_*_, _<_};
 ghost use Rattle.tables.specs.Records.{ownedRecord, commandRecord, engineRecord, recordOf, recordsOf, commandWrites, engineWrites, writesOf, isCommand, psnHolds, numbersHold};
 ghost use Rattle.tables.specs.Mailboxes.{storedOf, edgeNeed, commandNeed, needOf};
-ghost use Rattle.tables.specs.Bursts.{burstSize, psnPlace, commandTotal, engineTotal, totalOf, psnOffset, engineOffset, commandOffset, offsetOf};
 
 fn owned_record(owned: Owned) -> Record
     ensures { λ r. ⌜ r ≡ ownedRecord owned ⌝ }
@@ -177,103 +173,5 @@ pub fn need(request: Request) -> usize
     match request {
         Request::Command(command) => command_need(command),
         Request::Engine(_) => 0,
-    }
-}
-
-// Where a PSN's word starts in a queue pair's record.
-pub fn psn_place(which: Psn) -> usize
-    ensures { λ r. ⌜ r ≡ psnPlace which ⌝ }
-{
-    match which {
-        Psn::NextSend => 0x6c,
-        Psn::LastAcked => 0x7c,
-        Psn::Expected => 0x84,
-    }
-}
-
-fn command_total(command: Command) -> u8
-    ensures { λ r. ⌜ r ≡ commandTotal command ⌝ }
-{
-    match command {
-        Command::Sw2Hw(_) => 4,
-        Command::Hw2Sw(_) => 4,
-        Command::ResizeCq(_) => 4,
-        Command::QueryQp(_) => 16,
-        Command::ModifyQp(_, _) => 16,
-    }
-}
-
-fn engine_total(engine: Engine) -> u8
-    ensures { λ r. ⌜ r ≡ engineTotal engine ⌝ }
-{
-    match engine {
-        Engine::ReadState(_) => 1,
-        Engine::ReadNext(_) => 2,
-        Engine::ReadAll(_) => 16,
-        Engine::Write(_, _, _, _) => 2,
-    }
-}
-
-// How many bursts a request moves.
-pub fn total(request: Request) -> u8
-    ensures { λ r. ⌜ r ≡ totalOf request ⌝ }
-{
-    match request {
-        Request::Command(command) => command_total(command),
-        Request::Engine(engine) => engine_total(engine),
-    }
-}
-
-// Burst m of a request that moves all bursts of its record.
-fn whole_offset(m: u8) -> usize
-    ensures { λ r. ⌜ r ≡ m * burstSize ⌝ }
-{
-    m as usize * 16
-}
-
-// The state's burst, then the PSN's.
-fn psn_offset(which: Psn, m: u8) -> usize
-    requires { ⌜ m < 2 ⌝ }
-    ensures { λ r. ⌜ r ≡ psnOffset which m ⌝ }
-{
-    if m == 0 {
-        return 0;
-    }
-    psn_place(which) / 16 * 16
-}
-
-fn engine_offset(engine: Engine, m: u8) -> usize
-    requires { ⌜ m < engineTotal engine ⌝ }
-    ensures { λ r. ⌜ r ≡ engineOffset engine m ⌝ }
-{
-    match engine {
-        Engine::ReadState(_) => 0,
-        Engine::ReadNext(_) => psn_offset(Psn::NextSend, m),
-        Engine::ReadAll(_) => whole_offset(m),
-        Engine::Write(which, _, _, _) => psn_offset(which, m),
-    }
-}
-
-fn command_offset(command: Command, m: u8) -> usize
-    requires { ⌜ m < commandTotal command ⌝ }
-    ensures { λ r. ⌜ r ≡ commandOffset command m ⌝ }
-{
-    match command {
-        Command::Sw2Hw(_) => whole_offset(m),
-        Command::Hw2Sw(_) => whole_offset(m),
-        Command::ResizeCq(_) => whole_offset(m),
-        Command::QueryQp(_) => whole_offset(m),
-        Command::ModifyQp(_, _) => whole_offset(m),
-    }
-}
-
-// Where burst m of a request starts in its record.
-pub fn offset(request: Request, m: u8) -> usize
-    requires { ⌜ m < totalOf request ⌝ }
-    ensures { λ r. ⌜ r ≡ offsetOf request m ⌝ }
-{
-    match request {
-        Request::Command(command) => command_offset(command, m),
-        Request::Engine(engine) => engine_offset(engine, m),
     }
 }

@@ -35,10 +35,10 @@ fn move_bursts(store: &mut [u8], request: Request) {
     }
     let mut room = [0x1du8; 2048];
     memory::fill_mailbox(&mut room, memory::PART_AT, memory::PART_AT + 164);
-    let total = tables::total(request);
+    let total = burst_table::total(request);
     let mut m = 0;
     while m < total {
-        let first = tables::offset(request, m);
+        let first = burst_table::offset(request, m);
         bursts::write_at(
             store,
             memory::RECORD_AT + first,

@@ -23,7 +23,7 @@ use Rattle.requests.specs.declared.Request.{Request}
 use Rattle.requests.specs.declared.Request.the-variants as request
 use Rattle.tables.specs.Records.{recordOf as touched, writesOf}
 use Rattle.tables.specs.Mailboxes.{needOf}
-use Rattle.tables.specs.Bursts.{burstsOf}
+use Rattle.burst_table.specs.Bursts.{burstsOf}
 use Rattle.effects.specs.Permission.{permissionOf}
 use Rattle.effects.specs.Content.{contentHolds}
 use Rattle.answers.specs.Laws.{answer-agrees}

@@ -24,10 +24,10 @@ use Rattle.requests.specs.declared.Command.the-variants as command
 use Rattle.requests.specs.declared.Engine.the-variants as engine
 use Rattle.requests.specs.declared.Request.{Request}
 use Rattle.requests.specs.declared.Request.the-variants as request
-use Rattle.tables.specs.Totals.{owned-size}
+use Rattle.tables.specs.Sizes.{owned-size}
 use Rattle.tables.specs.Records.{recordOf, writesOf}
 use Rattle.tables.specs.Mailboxes.{storedOf, needOf}
-use Rattle.tables.specs.Bursts.{psnPlace}
+use Rattle.burst_table.specs.Bursts.{psnPlace}
 use Rattle.bursts.specs.Bytes.{sw2hwByte, resizeByte, psnByte, writeByte, byteOf}
 use Rattle.rules.specs.Whole.{ownedEffect, resizeEffect, setPsn, psnEffect, wholeEffect}
 use Rattle.words.specs.Tests.{within-yes, within-no, beyond}

@@ -29,7 +29,7 @@ use Rattle.requests.specs.declared.Psn.the-variants.{NextSend, LastAcked, Expec
 use Rattle.requests.specs.declared.Request.{Request}
 use Rattle.requests.specs.declared.Request.the-variants as request
 use Rattle.tables.specs.Records.{recordOf as touched, writesOf}
-use Rattle.tables.specs.Bursts.{burstsOf, totalOf, psnBursts, psnPlace, at-burst}
+use Rattle.burst_table.specs.Bursts.{burstsOf, totalOf, psnBursts, psnPlace, at-burst}
 use Rattle.effects.specs.Fields.{stateOf, serviceOf}
 use Rattle.effects.specs.Permission.{permissionOf}
 use Rattle.answers.specs.Answers.{answerSize}

@@ -12,7 +12,7 @@ use Rattle.context.specs.Records.{record?}
 use Rattle.context.specs.declared.Record.{Record}
 use Rattle.requests.specs.declared.Request.{Request}
 use Rattle.tables.specs.Records.{recordOf as touched, writesOf}
-use Rattle.tables.specs.Bursts.{burstsOf}
+use Rattle.burst_table.specs.Bursts.{burstsOf}
 use Rattle.answers.specs.Answers.{answerSize}
 use Rattle.bursts.specs.Bytes.{byteOf}
 use Rattle.bursts.specs.Bursts.{burst}

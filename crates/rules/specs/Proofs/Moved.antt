@@ -23,7 +23,7 @@ use Rattle.requests.specs.declared.Request.{Request}
 use Rattle.requests.specs.declared.Request.the-variants as request
 use Rattle.tables.specs.Records.{recordOf as touched, writesOf}
 use Rattle.tables.specs.Mailboxes.{needOf}
-use Rattle.tables.specs.Bursts.{burstsOf, totalOf, offsetOf}
+use Rattle.burst_table.specs.Bursts.{burstsOf, totalOf, offsetOf}
 use Rattle.answers.specs.Answers.{answerOf}
 use Rattle.bursts.specs.Bytes.{byteOf}
 use Rattle.bursts.specs.Moves.{writeAt, copyAt}

@@ -16,7 +16,7 @@ use Rattle.context.specs.Records.{record-inside}
 use Rattle.context.specs.declared.Record.{Record}
 use Rattle.requests.specs.declared.Request.{Request}
 use Rattle.tables.specs.Records.{recordOf as touched}
-use Rattle.tables.specs.Bursts.{burstsOf, totalOf}
+use Rattle.burst_table.specs.Bursts.{burstsOf, totalOf}
 use Rattle.answers.specs.Answers.{answerOf}
 use Rattle.slots.specs.Slots.{slot}
 use Rattle.words.specs.Tests.{neither-left, neither-right}

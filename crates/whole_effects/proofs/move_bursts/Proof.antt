@@ -6,7 +6,7 @@ use borrow.Author.Needs.{needs}
 use native.Mathlib.Omega.{arith}
 use lib.ListN.{length}
 use Rattle.requests.specs.declared.Request.{Request}
-use Rattle.tables.specs.Bursts.{totalOf, offsetOf}
+use Rattle.burst_table.specs.Bursts.{totalOf, offsetOf}
 use Rattle.bursts.specs.Table.{offset-room, need-small}
 use Rattle.whole_effects.proofs.move_bursts.Statement.{statement}
 use Rattle.whole_effects.proofs.move_bursts.Tie as tie

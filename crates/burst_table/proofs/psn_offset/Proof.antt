@@ -1,8 +1,8 @@
--- `tables::psn_offset` meets its contract.
-use Rattle.tables.specs.Bursts.{psn-first, psn-second}
+-- `burst_table::psn_offset` meets its contract.
+use Rattle.burst_table.specs.Bursts.{psn-first, psn-second}
 use borrow.Author.Needs.{needs}
-use Rattle.tables.proofs.psn_offset.Statement.{statement}
-use Rattle.tables.proofs.psn_offset.Tie as tie
+use Rattle.burst_table.proofs.psn_offset.Statement.{statement}
+use Rattle.burst_table.proofs.psn_offset.Tie as tie
 
 returns : tie.Need-returns
 returns c = psn-first (c .before .args .which) _ (c .if1 .taken)

@@ -1,21 +1,11 @@
--- Bounds of the request table.
-use mathlib.Core.Path.{_≡_, refl}
+-- Bounds of the burst table.
 use Prim.Native.Nat.{_≤_}
 use lib.Dec.{lit≤}
-use Rattle.context.specs.Layout.{recordSize}
-use Rattle.requests.specs.declared.Owned.{Owned}
-use Rattle.requests.specs.declared.Owned.the-variants as owned
 use Rattle.requests.specs.declared.Command.the-variants as command
 use Rattle.requests.specs.declared.Engine.the-variants as engine
 use Rattle.requests.specs.declared.Request.{Request}
 use Rattle.requests.specs.declared.Request.the-variants as request
-use Rattle.tables.specs.Records.{ownedRecord}
-use Rattle.tables.specs.Bursts.{totalOf}
-
-pub owned-size : (o : Owned) → recordSize (ownedRecord o) ≡ 64
-owned-size (owned.Mpt n) = refl
-owned-size (owned.Eq n) = refl
-owned-size (owned.Cq n) = refl
+use Rattle.burst_table.specs.Bursts.{totalOf}
 
 -- every request moves a burst, and at most 16
 pub total-positive : (q : Request) → 1 ≤ totalOf q

@@ -1,9 +1,9 @@
--- `tables::engine_offset` meets its contract.
-use Rattle.tables.specs.Bursts.{whole-offset, read-offset}
+-- `burst_table::engine_offset` meets its contract.
+use Rattle.burst_table.specs.Bursts.{whole-offset, read-offset}
 use mathlib.Core.Path.{_∙_}
 use borrow.Author.Needs.{needs}
-use Rattle.tables.proofs.engine_offset.Statement.{statement}
-use Rattle.tables.proofs.engine_offset.Tie as tie
+use Rattle.burst_table.proofs.engine_offset.Statement.{statement}
+use Rattle.burst_table.proofs.engine_offset.Tie as tie
 
 enum-told : tie.Need-enum-told
 enum-told c = search needs

@@ -1,7 +1,7 @@
--- `tables::offset` meets its contract.
+-- `burst_table::offset` meets its contract.
 use borrow.Author.Needs.{needs}
-use Rattle.tables.proofs.offset.Statement.{statement}
-use Rattle.tables.proofs.offset.Tie as tie
+use Rattle.burst_table.proofs.offset.Statement.{statement}
+use Rattle.burst_table.proofs.offset.Tie as tie
 
 enum-known-request : tie.Need-enum-known-request
 enum-known-request c = search needs

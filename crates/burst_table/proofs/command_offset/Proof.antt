@@ -1,9 +1,9 @@
--- `tables::command_offset` meets its contract.
-use Rattle.tables.specs.Bursts.{whole-offset}
+-- `burst_table::command_offset` meets its contract.
+use Rattle.burst_table.specs.Bursts.{whole-offset}
 use mathlib.Core.Path.{_∙_}
 use borrow.Author.Needs.{needs}
-use Rattle.tables.proofs.command_offset.Statement.{statement}
-use Rattle.tables.proofs.command_offset.Tie as tie
+use Rattle.burst_table.proofs.command_offset.Statement.{statement}
+use Rattle.burst_table.proofs.command_offset.Tie as tie
 
 enum-told : tie.Need-enum-told
 enum-told c = search needs
