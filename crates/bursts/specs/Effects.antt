@@ -27,7 +27,7 @@ use Rattle.tables.specs.Records.{ownedRecord, recordOf, writesOf}
 use Rattle.burst_table.specs.Bursts.{psnPlace, burstsFrom, psnBursts, burstsOf}
 use Rattle.burst_table.specs.Touched.{Inside, Touched}
 use Rattle.bursts.specs.Bursts.{burst, after, burst-in, after-whole}
-use Rattle.bursts.specs.Bytes.{withState, takenByte, edgeByte, psnByte, writeByte, byteOf}
+use Rattle.byte_rule.specs.Bytes.{withState, takenByte, edgeByte, psnByte, writeByte, byteOf}
 use Rattle.bursts.specs.Table.{all-touched, bursts-fit, bursts-once}
 
 -- "Reads ..: Nothing changes."

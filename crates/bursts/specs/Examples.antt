@@ -9,7 +9,7 @@ use Rattle.edges.specs.declared.State.{State}
 use Rattle.requests.specs.declared.Psn.the-variants.{Expected}
 use Rattle.requests.specs.declared.Engine.the-variants as engine
 use Rattle.requests.specs.declared.Request.the-variants as request
-use Rattle.bursts.specs.Bytes.{withState, psnByte, writeByte}
+use Rattle.byte_rule.specs.Bytes.{withState, psnByte, writeByte}
 use Rattle.bursts.specs.Moves.{writtenPart}
 
 -- "P12 word 84h 0x07000010, expected PSN 0x20 written: 0x07000020."

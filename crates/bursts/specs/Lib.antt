@@ -1,6 +1,4 @@
--- The byte rule, and a burst: one 16-byte part of a record that is changed or copied.
-pub mod Taken
-pub mod Bytes
+-- A burst: one 16-byte part of a record that is changed or copied.
 pub mod Moves
 pub mod Leaves
 pub mod Bursts

@@ -5,7 +5,7 @@ use Rattle.words.specs.Parts.{part, splice}
 use Rattle.words.specs.Maps.{mapFrom}
 use Rattle.requests.specs.declared.Request.{Request}
 use Rattle.burst_table.specs.Bursts.{burstSize}
-use Rattle.bursts.specs.Bytes.{byteOf}
+use Rattle.byte_rule.specs.Bytes.{byteOf}
 
 -- a part of a record that starts at offset first, after the write
 unfoldable pub writtenPart : Request → List ℕ → ℕ → List ℕ → List ℕ

@@ -11,7 +11,7 @@ use Rattle.context.specs.Layout.{recordSize}
 use Rattle.requests.specs.declared.Request.{Request}
 use Rattle.tables.specs.Records.{recordOf}
 use Rattle.burst_table.specs.Bursts.{burstsOf, totalOf, offsetOf}
-use Rattle.bursts.specs.Bytes.{byteOf}
+use Rattle.byte_rule.specs.Bytes.{byteOf}
 use Rattle.bursts.specs.Moves.{writtenPart, writeAt, copyAt}
 use Rattle.bursts.specs.Leaves.{length-writtenPart}
 use Rattle.bursts.specs.Bursts.{burst}

@@ -35,7 +35,7 @@ use Rattle.rules.specs.World.{World}
 use Rattle.rules.specs.Commands.{submitCommand}
 use Rattle.rules.specs.Engines.{submitEngine}
 use Rattle.rules.specs.Steps.{stepOf}
-use Rattle.rules.specs.Collections.{Collected, collectOf}
+use Rattle.rules.specs.Collections.{collectOf}
 use Rattle.rules.specs.Resets.{resetOf}
 use Rattle.rules.specs.Book.{Fed, onRecord, closeHca, nop}
 

@@ -22,7 +22,7 @@ use Rattle.requests.specs.declared.Psn.the-variants.{Expected}
 use Rattle.requests.specs.declared.Engine.the-variants as engine
 use Rattle.requests.specs.declared.Request.{Request}
 use Rattle.requests.specs.declared.Request.the-variants as request
-use Rattle.bursts.specs.Bytes.{byteOf, withState, psnByte, writeByte}
+use Rattle.byte_rule.specs.Bytes.{byteOf, withState, psnByte, writeByte}
 use Rattle.rules.specs.Whole.{wholeEffect, setState, setPsn}
 
 -- an example: n of Pn, what the definitions give, and what document 01 gives

@@ -14,7 +14,7 @@ use Rattle.context.specs.declared.Record.{Record}
 use Rattle.requests.specs.declared.Request.{Request}
 use Rattle.tables.specs.Records.{recordOf as touched, writesOf}
 use Rattle.burst_table.specs.Bursts.{burstsOf, totalOf}
-use Rattle.bursts.specs.Bytes.{byteOf}
+use Rattle.byte_rule.specs.Bytes.{byteOf}
 use Rattle.bursts.specs.Bursts.{burst}
 use Rattle.slots.specs.declared.Status.the-variants.{Running}
 use Rattle.rules.specs.declared.SubmitAnswer.{SubmitAnswer}

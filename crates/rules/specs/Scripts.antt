@@ -16,7 +16,7 @@ use Rattle.requests.specs.Engines.{numberOf, stateFrom, engineOf}
 use Rattle.tables.specs.Records.{numbersHold}
 use Rattle.effects.specs.Fields.{stateOf, serviceOf, isHardware}
 use Rattle.answers.specs.Answers.{stateAnswer, nextAnswer, wholeAnswer}
-use Rattle.bursts.specs.Bytes.{withState, takenByte, edgeByte, sw2hwByte, resizeByte, psnByte, writeByte}
+use Rattle.byte_rule.specs.Bytes.{withState, takenByte, edgeByte, sw2hwByte, resizeByte, psnByte, writeByte}
 use Rattle.bursts.specs.Moves.{writtenPart, writeAt, copyAt}
 use Rattle.rows.specs.Rows.{emptyRow, anySlot, anyRest, lowestFree}
 use Rattle.rows.specs.Holds.{clashRecords, heldAgainst}

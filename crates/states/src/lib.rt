@@ -9,7 +9,7 @@ ghost use lib.ListN.{getD, drop};
 ghost use Rattle.slots.specs.Slots.{slot};
 ghost use Rattle.rows.specs.Rows.{anySlot};
 ghost use Rattle.slots.specs.declared.Status.the-variants.{Free};
-ghost use Rattle.states.specs.Possible.{runningWrong, finishedWrong, statusWrong, slotWrong, twoCommands, clashBefore, holdsClash, openImpossible, impossible};
+ghost use Rattle.states.specs.Possible.{runningWrong, finishedWrong, slotWrong, twoCommands, clashBefore, holdsClash, openImpossible, impossible};
 
 // What the caller hands in and gets back: whether the adapter is open, the logarithms of the counts,
 // and the length of the store that INIT_HCA was lent.

@@ -3,7 +3,7 @@ ghost use mathlib.Core.Path.{_≡_};
 ghost use Prim.Native.Nat.{_+_, _≤_};
 ghost use mathlib.Core.List.{_∷_, []};
 ghost use lib.ListN.{length, replicate};
-ghost use Rattle.words.specs.Parts.{part, splice};
+ghost use Rattle.words.specs.Parts.{splice};
 ghost use Rattle.words.specs.Words.{leValue, le32, be32, leBytes, beBytes};
 
 fn wide(x: u8) -> u32

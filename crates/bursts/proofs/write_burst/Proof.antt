@@ -4,7 +4,7 @@ use Prim.Native.Nat.{_≤_, _-_}
 use mathlib.Core.Path.{_≡_}
 use lib.ListN.{length}
 use Rattle.words.specs.Maps.{mapFirst, none-mapFirst, step-mapFirst, done-mapFirst}
-use Rattle.bursts.specs.Bytes.{byteOf}
+use Rattle.byte_rule.specs.Bytes.{byteOf}
 use Rattle.bursts.specs.Moves.{writtenPart}
 use Rattle.bursts.proofs.write_burst.Statement.{statement}
 use Rattle.bursts.proofs.write_burst.Tie as tie

@@ -28,7 +28,7 @@ use Rattle.tables.specs.Sizes.{owned-size}
 use Rattle.tables.specs.Records.{recordOf, writesOf}
 use Rattle.tables.specs.Mailboxes.{storedOf, needOf}
 use Rattle.burst_table.specs.Bursts.{psnPlace}
-use Rattle.bursts.specs.Bytes.{sw2hwByte, resizeByte, psnByte, writeByte, byteOf}
+use Rattle.byte_rule.specs.Bytes.{sw2hwByte, resizeByte, psnByte, writeByte, byteOf}
 use Rattle.rules.specs.Whole.{ownedEffect, resizeEffect, setPsn, psnEffect, wholeEffect}
 use Rattle.words.specs.Tests.{within-yes, within-no, beyond}
 use Rattle.rules.specs.Proofs.AgreeEdges.{state-over, edge-bytes}

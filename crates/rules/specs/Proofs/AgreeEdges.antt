@@ -15,8 +15,8 @@ use Rattle.edges.specs.declared.State.{State}
 use Rattle.edges.specs.declared.Edge.{Edge}
 use Rattle.edges.specs.declared.Edge.the-variants.{ResetToInit, InitToInit, InitToRtr, RtrToRts, RtsToRts, SqeToRts, RtsToSqd, SqdToSqd, SqdToRts, ToErr, ToReset}
 use Rattle.tables.specs.Mailboxes.{edgeNeed}
-use Rattle.bursts.specs.Taken.{takes, wordOf, zeroes}
-use Rattle.bursts.specs.Bytes.{withState, takenByte, edgeByte}
+use Rattle.byte_rule.specs.Taken.{takes, wordOf, zeroes}
+use Rattle.byte_rule.specs.Bytes.{withState, takenByte, edgeByte}
 use Rattle.rules.specs.Whole.{takeWords, setState, edgeEffect}
 use Rattle.words.specs.Tests.{within-yes, within-no, beyond, within-one, pick-either, either-assoc}
 

@@ -25,8 +25,8 @@ use Rattle.requests.specs.declared.Request.the-variants as request
 use Rattle.tables.specs.Records.{ownedRecord, recordOf}
 use Rattle.effects.specs.Fields.{stateOf}
 use Rattle.burst_table.specs.Bursts.{psnPlace}
-use Rattle.bursts.specs.Taken.{zeroes}
-use Rattle.bursts.specs.Bytes.{withState, takenByte, edgeByte, psnByte, writeByte, byteOf}
+use Rattle.byte_rule.specs.Taken.{zeroes}
+use Rattle.byte_rule.specs.Bytes.{withState, takenByte, edgeByte, psnByte, writeByte, byteOf}
 use Rattle.tables.specs.Sizes.{owned-size}
 
 -- the state code after a request on a queue pair, from the code before: an edge and an engine write set it, a read leaves it;

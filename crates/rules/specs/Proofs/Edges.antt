@@ -33,11 +33,11 @@ use Rattle.burst_table.specs.Bursts.{burstsOf, totalOf, psnBursts, psnPlace, at
 use Rattle.effects.specs.Fields.{stateOf, serviceOf}
 use Rattle.effects.specs.Permission.{permissionOf}
 use Rattle.answers.specs.Answers.{answerSize}
-use Rattle.bursts.specs.Bytes.{byteOf}
+use Rattle.byte_rule.specs.Bytes.{byteOf}
 use Rattle.bursts.specs.Bursts.{burst, burst-out, fit-at}
 use Rattle.bursts.specs.Table.{bursts-room, total-bursts}
 use Rattle.bursts.specs.Effects.{state-first}
-use Rattle.slots.specs.Slots.{slot, advanced, advancedStatus, freed}
+use Rattle.slots.specs.Slots.{slot, advanced, advancedStatus}
 use Rattle.slots.specs.declared.Slot.{Slot}
 use Rattle.slots.specs.declared.Status.{Status}
 use Rattle.slots.specs.declared.Status.the-variants.{Free, Running, Finished}

@@ -20,10 +20,8 @@ use Rattle.context.specs.declared.Init.{Init}
 use Rattle.context.specs.declared.Init.the-variants as init
 use Rattle.requests.specs.Commands.{opOf, commandOf}
 use Rattle.requests.specs.Engines.{numberOf, engineOf}
-use Rattle.requests.specs.declared.Command.{Command}
 use Rattle.requests.specs.declared.CommandFound.{CommandFound}
 use Rattle.requests.specs.declared.CommandFound.the-variants as found
-use Rattle.requests.specs.declared.Engine.{Engine}
 use Rattle.requests.specs.declared.EngineFound.{EngineFound}
 use Rattle.requests.specs.declared.EngineFound.the-variants as asked′
 use Rattle.requests.specs.declared.EngineNumber.{EngineNumber}

@@ -25,7 +25,7 @@ use Rattle.tables.specs.Records.{recordOf as touched, writesOf}
 use Rattle.tables.specs.Mailboxes.{needOf}
 use Rattle.burst_table.specs.Bursts.{burstsOf, totalOf, offsetOf}
 use Rattle.answers.specs.Answers.{answerOf}
-use Rattle.bursts.specs.Bytes.{byteOf}
+use Rattle.byte_rule.specs.Bytes.{byteOf}
 use Rattle.bursts.specs.Moves.{writeAt, copyAt}
 use Rattle.bursts.specs.Bursts.{after, burst}
 use Rattle.bursts.specs.Copies.{copies, copy}

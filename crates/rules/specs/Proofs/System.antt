@@ -12,7 +12,7 @@ use Rattle.requests.specs.declared.Request.{Request}
 use Rattle.tables.specs.Records.{recordOf, writesOf}
 use Rattle.effects.specs.Permission.{permissionOf}
 use Rattle.answers.specs.Answers.{answerOf}
-use Rattle.bursts.specs.Bytes.{byteOf}
+use Rattle.byte_rule.specs.Bytes.{byteOf}
 use Rattle.bursts.specs.Bursts.{after}
 use Rattle.bursts.specs.Copies.{copies}
 use Rattle.serial.specs.Core.{Sys}

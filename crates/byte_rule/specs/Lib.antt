@@ -1,0 +1,4 @@
+-- The byte rule of every write.
+pub mod Taken
+pub mod Bytes
+pub mod Needed
