@@ -1,7 +1,8 @@
 -- Document 01, "Engine requests": from number, index, PSN and state to the request.
 use mathlib.Core.Path.{_≡_, refl}
+use mathlib.Core.Bool.{Bool}
 use Prim.Native.Nat.{ℕ}
-use lib.Dec.{eqb, ltb}
+use lib.Dec.{eqb, leb}
 use Rattle.words.specs.Choice.{pick}
 use Rattle.context.specs.Numbers.{qpOf}
 use Rattle.context.specs.declared.Logs.{Logs}
@@ -62,9 +63,13 @@ abbrev pub withState : Psn → QpNumber → ℕ → StateFound → EngineFound
 withState p n psn (stateFound.State s) = Asked (engine.Write p n psn s)
 withState p n psn stateFound.OutOfRange = Wrong
 
+-- not "PSN above 0xffffff"
+abbrev pub psnFits : ℕ → Bool
+psnFits psn = leb psn 0xffffff
+
 -- "in requests 3 to 5, PSN above 0xffffff or state above 6"
 abbrev pub engineWriteOf : Psn → QpNumber → ℕ → StateFound → EngineFound
-engineWriteOf p n psn s = pick (ltb 0xffffff psn) Wrong (withState p n psn s)
+engineWriteOf p n psn s = pick (psnFits psn) (withState p n psn s) Wrong
 
 -- "A field that a request does not use is not looked at."
 abbrev pub engineOn : EngineNumber → QpNumber → ℕ → ℕ → EngineFound

@@ -12,9 +12,9 @@ use context::QpNumber;
 use edges::Edge;
 use edges::State;
 ghost use mathlib.Core.Path.{_≡_};
-ghost use Rattle.context.specs.Numbers.{cqOf, eqOf, mptOf};
+ghost use Rattle.context.specs.Numbers.{qpOf, cqOf, eqOf, mptOf};
 ghost use Rattle.requests.specs.Commands.{opOf, edgeModifier, opModifierOf, onMpt, onEq, onCq, ownedOf, atOnce, sw2hwOf, hw2swOf, resizeOf, queryOf, modifyOf, addressed, commandOf};
-ghost use Rattle.requests.specs.Engines.{numberOf, stateFrom, engineWriteOf, engineOn, engineOf};
+ghost use Rattle.requests.specs.Engines.{numberOf, stateFrom, psnFits, engineWriteOf, engineOn, engineOf};
 
 // A record that software and hardware hand over to each other.
 pub enum Owned {
@@ -214,47 +214,47 @@ fn read_owned(table: Table, logs: Logs, n: u32) -> OwnedFound
     }
 }
 
-fn sw2hw(found: OwnedFound) -> CommandFound
-    ensures { λ r. ⌜ r ≡ sw2hwOf found ⌝ }
+fn sw2hw(table: Table, logs: Logs, n: u32) -> CommandFound
+    ensures { λ r. ⌜ r ≡ sw2hwOf (ownedOf logs table n) ⌝ }
 {
-    match found {
+    match read_owned(table, logs, n) {
         OwnedFound::Record(rec) => CommandFound::OnRecord(Command::Sw2Hw(rec)),
         OwnedFound::OutOfRange => CommandFound::Wrong,
     }
 }
 
-fn hw2sw(found: OwnedFound) -> CommandFound
-    ensures { λ r. ⌜ r ≡ hw2swOf found ⌝ }
+fn hw2sw(table: Table, logs: Logs, n: u32) -> CommandFound
+    ensures { λ r. ⌜ r ≡ hw2swOf (ownedOf logs table n) ⌝ }
 {
-    match found {
+    match read_owned(table, logs, n) {
         OwnedFound::Record(rec) => CommandFound::OnRecord(Command::Hw2Sw(rec)),
         OwnedFound::OutOfRange => CommandFound::Wrong,
     }
 }
 
-fn resize(found: CqFound) -> CommandFound
-    ensures { λ r. ⌜ r ≡ resizeOf found ⌝ }
+fn resize(logs: Logs, n: u32) -> CommandFound
+    ensures { λ r. ⌜ r ≡ resizeOf (cqOf logs n) ⌝ }
 {
-    match found {
-        CqFound::Number(n) => CommandFound::OnRecord(Command::ResizeCq(n)),
+    match context::cq_number(logs, n) {
+        CqFound::Number(m) => CommandFound::OnRecord(Command::ResizeCq(m)),
         CqFound::OutOfRange => CommandFound::Wrong,
     }
 }
 
-fn query(found: QpFound) -> CommandFound
-    ensures { λ r. ⌜ r ≡ queryOf found ⌝ }
+fn query(logs: Logs, n: u32) -> CommandFound
+    ensures { λ r. ⌜ r ≡ queryOf (qpOf logs n) ⌝ }
 {
-    match found {
-        QpFound::Number(n) => CommandFound::OnRecord(Command::QueryQp(n)),
+    match context::qp_number(logs, n) {
+        QpFound::Number(m) => CommandFound::OnRecord(Command::QueryQp(m)),
         QpFound::OutOfRange => CommandFound::Wrong,
     }
 }
 
-fn modify(edge: Edge, found: QpFound) -> CommandFound
-    ensures { λ r. ⌜ r ≡ modifyOf edge found ⌝ }
+fn modify(edge: Edge, logs: Logs, n: u32) -> CommandFound
+    ensures { λ r. ⌜ r ≡ modifyOf edge (qpOf logs n) ⌝ }
 {
-    match found {
-        QpFound::Number(n) => CommandFound::OnRecord(Command::ModifyQp(edge, n)),
+    match context::qp_number(logs, n) {
+        QpFound::Number(m) => CommandFound::OnRecord(Command::ModifyQp(edge, m)),
         QpFound::OutOfRange => CommandFound::Wrong,
     }
 }
@@ -276,11 +276,11 @@ fn on_record(op: Op, logs: Logs, n: u32) -> CommandFound
         Op::InitHca => at_once(CommandFound::InitHca, n),
         Op::CloseHca => at_once(CommandFound::CloseHca, n),
         Op::Nop => at_once(CommandFound::Nop, n),
-        Op::Sw2Hw(table) => sw2hw(read_owned(table, logs, n)),
-        Op::Hw2Sw(table) => hw2sw(read_owned(table, logs, n)),
-        Op::ResizeCq => resize(context::cq_number(logs, n)),
-        Op::QueryQp => query(context::qp_number(logs, n)),
-        Op::ModifyQp(edge) => modify(edge, context::qp_number(logs, n)),
+        Op::Sw2Hw(table) => sw2hw(table, logs, n),
+        Op::Hw2Sw(table) => hw2sw(table, logs, n),
+        Op::ResizeCq => resize(logs, n),
+        Op::QueryQp => query(logs, n),
+        Op::ModifyQp(edge) => modify(edge, logs, n),
     }
 }
 
@@ -323,10 +323,17 @@ fn read_state(code: u8) -> StateFound
     }
 }
 
+// Whether a PSN is one that an engine write may set: 24 bits.
+pub fn psn_fits(psn: u32) -> bool
+    ensures { λ r. ⌜ r ≡ psnFits psn ⌝ }
+{
+    psn <= 0xffffff
+}
+
 fn engine_write(which: Psn, n: QpNumber, psn: u32, found: StateFound) -> EngineFound
     ensures { λ r. ⌜ r ≡ engineWriteOf which n psn found ⌝ }
 {
-    if 0xffffff < psn {
+    if !psn_fits(psn) {
         return EngineFound::Wrong;
     }
     match found {

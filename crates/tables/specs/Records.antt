@@ -1,12 +1,12 @@
 -- Which record a request touches, whether it reads or writes it, and which numbers its submission accepts.
 use mathlib.Core.Bool.{Bool, true, false}
 use mathlib.Core.List.{List, [], _∷_}
-use lib.Dec.{leb}
 use Rattle.words.specs.Choice.{both}
 use Rattle.context.specs.Layout.{isRecord}
 use Rattle.context.specs.declared.Logs.{Logs}
 use Rattle.context.specs.declared.Record.{Record}
 use Rattle.context.specs.declared.Record.the-variants as rec
+use Rattle.requests.specs.Engines.{psnFits}
 use Rattle.requests.specs.declared.Owned.{Owned}
 use Rattle.requests.specs.declared.Owned.the-variants as owned
 use Rattle.requests.specs.declared.Command.{Command}
@@ -71,7 +71,7 @@ abbrev pub enginePsnHolds : Engine → Bool
 enginePsnHolds (engine.ReadState n) = true
 enginePsnHolds (engine.ReadNext n) = true
 enginePsnHolds (engine.ReadAll n) = true
-enginePsnHolds (engine.Write p n psn s) = leb psn 0xffffff
+enginePsnHolds (engine.Write p n psn s) = psnFits psn
 
 abbrev pub psnHolds : Request → Bool
 psnHolds (request.Command c) = true

@@ -111,7 +111,7 @@ fn psn_holds(request: Request) -> bool
         Engine::ReadState(_) => true,
         Engine::ReadNext(_) => true,
         Engine::ReadAll(_) => true,
-        Engine::Write(_, _, psn, _) => psn <= 0xffffff,
+        Engine::Write(_, _, psn, _) => requests::psn_fits(psn),
     }
 }
 

@@ -24,17 +24,11 @@ at-once-requires-3 c κs = search needs
 enum-known-op : tie.Need-enum-known-op
 enum-known-op c = search needs
 
-read-owned-requires : tie.Need-read-owned-requires
-read-owned-requires c κs = search needs
-
 sw2hw-requires : tie.Need-sw2hw-requires
 sw2hw-requires c κs = search needs
 
 enum-known-op-2 : tie.Need-enum-known-op-2
 enum-known-op-2 c = search needs
-
-read-owned-requires-2 : tie.Need-read-owned-requires-2
-read-owned-requires-2 c κs = search needs
 
 hw2sw-requires : tie.Need-hw2sw-requires
 hw2sw-requires c κs = search needs
@@ -42,26 +36,17 @@ hw2sw-requires c κs = search needs
 enum-told-4 : tie.Need-enum-told-4
 enum-told-4 c = search needs
 
-cq-number-requires : tie.Need-cq-number-requires
-cq-number-requires c κs = search needs
-
 resize-requires : tie.Need-resize-requires
 resize-requires c κs = search needs
 
 enum-told-5 : tie.Need-enum-told-5
 enum-told-5 c = search needs
 
-qp-number-requires : tie.Need-qp-number-requires
-qp-number-requires c κs = search needs
-
 query-requires : tie.Need-query-requires
 query-requires c κs = search needs
 
 enum-known-op-3 : tie.Need-enum-known-op-3
 enum-known-op-3 c = search needs
-
-qp-number-requires-2 : tie.Need-qp-number-requires-2
-qp-number-requires-2 c κs = search needs
 
 modify-requires : tie.Need-modify-requires
 modify-requires c κs = search needs
@@ -76,19 +61,19 @@ returns-3 : tie.Need-returns-3
 returns-3 c = rw (c .before .enum-told3 .given .1) (c .at-once3 .ensures)
 
 returns-4 : tie.Need-returns-4
-returns-4 c = rw (c .before .before .before .op .given .1, ← c .before .read-owned .ensures) (c .sw2hw .ensures)
+returns-4 c = rw (c .before .before .op .given .1) (c .sw2hw .ensures)
 
 returns-5 : tie.Need-returns-5
-returns-5 c = rw (c .before .before .before .op2 .given .1, ← c .before .read-owned2 .ensures) (c .hw2sw .ensures)
+returns-5 c = rw (c .before .before .op2 .given .1) (c .hw2sw .ensures)
 
 returns-6 : tie.Need-returns-6
-returns-6 c = rw (c .before .before .enum-told4 .given .1, ← c .before .cq-number .ensures) (c .resize .ensures)
+returns-6 c = rw (c .before .enum-told4 .given .1) (c .resize .ensures)
 
 returns-7 : tie.Need-returns-7
-returns-7 c = rw (c .before .before .enum-told5 .given .1, ← c .before .qp-number .ensures) (c .query .ensures)
+returns-7 c = rw (c .before .enum-told5 .given .1) (c .query .ensures)
 
 returns-8 : tie.Need-returns-8
-returns-8 c = rw (c .before .before .before .op3 .given .1, ← c .before .qp-number2 .ensures) (c .modify .ensures)
+returns-8 c = rw (c .before .before .op3 .given .1) (c .modify .ensures)
 
 pub on-record-spec : {M : Type 1} → statement M
 on-record-spec =
@@ -101,19 +86,14 @@ on-record-spec =
     enum-told-3
     at-once-requires-3
     enum-known-op
-    read-owned-requires
     sw2hw-requires
     enum-known-op-2
-    read-owned-requires-2
     hw2sw-requires
     enum-told-4
-    cq-number-requires
     resize-requires
     enum-told-5
-    qp-number-requires
     query-requires
     enum-known-op-3
-    qp-number-requires-2
     modify-requires
     returns
     returns-2

@@ -3,17 +3,20 @@ use borrow.Author.Needs.{needs}
 use Rattle.requests.proofs.resize.Statement.{statement}
 use Rattle.requests.proofs.resize.Tie as tie
 
-enum-known-found : tie.Need-enum-known-found
-enum-known-found c = search needs
+cq-number-requires : tie.Need-cq-number-requires
+cq-number-requires c κs = search needs
+
+enum-known-m : tie.Need-enum-known-m
+enum-known-m c = search needs
 
 enum-told : tie.Need-enum-told
 enum-told c = search needs
 
 returns : tie.Need-returns
-returns c = rw (c .before .found .given .1)
+returns c = rw (← c .before .before .before .cq-number .ensures, c .before .m .given .1)
 
 returns-2 : tie.Need-returns-2
-returns-2 c = rw (c .enum-told .given .1)
+returns-2 c = rw (← c .before .before .cq-number .ensures, c .enum-told .given .1)
 
 pub resize-spec : {M : Type 1} → statement M
-resize-spec = tie.close (tie.spec enum-known-found enum-told returns returns-2)
+resize-spec = tie.close (tie.spec cq-number-requires enum-known-m enum-told returns returns-2)

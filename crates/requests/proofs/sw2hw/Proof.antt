@@ -3,17 +3,20 @@ use borrow.Author.Needs.{needs}
 use Rattle.requests.proofs.sw2hw.Statement.{statement}
 use Rattle.requests.proofs.sw2hw.Tie as tie
 
-enum-known-found : tie.Need-enum-known-found
-enum-known-found c = search needs
+read-owned-requires : tie.Need-read-owned-requires
+read-owned-requires c κs = search needs
+
+enum-known-rec : tie.Need-enum-known-rec
+enum-known-rec c = search needs
 
 enum-told : tie.Need-enum-told
 enum-told c = search needs
 
 returns : tie.Need-returns
-returns c = rw (c .before .found .given .1)
+returns c = rw (← c .before .before .before .read-owned .ensures, c .before .rec .given .1)
 
 returns-2 : tie.Need-returns-2
-returns-2 c = rw (c .enum-told .given .1)
+returns-2 c = rw (← c .before .before .read-owned .ensures, c .enum-told .given .1)
 
 pub sw2hw-spec : {M : Type 1} → statement M
-sw2hw-spec = tie.close (tie.spec enum-known-found enum-told returns returns-2)
+sw2hw-spec = tie.close (tie.spec read-owned-requires enum-known-rec enum-told returns returns-2)

@@ -24,6 +24,9 @@ enum-told-4 c = search needs
 enum-known-engine : tie.Need-enum-known-engine
 enum-known-engine c = search needs
 
+psn-fits-requires : tie.Need-psn-fits-requires
+psn-fits-requires c κs = search needs
+
 returns-2 : tie.Need-returns-2
 returns-2 c = search needs
 
@@ -34,7 +37,8 @@ returns-4 : tie.Need-returns-4
 returns-4 c = search needs
 
 returns-5 : tie.Need-returns-5
-returns-5 c = rw (c .before .before .before .before .request .given .1, c .before .engine .given .1)
+returns-5 c =
+    rw (c .before .before .before .before .before .request .given .1, c .before .before .engine .given .1) (c .psn-fits .ensures)
 
 pub psn-holds-spec : {M : Type 1} → statement M
 psn-holds-spec =
@@ -47,6 +51,7 @@ psn-holds-spec =
     enum-told-3
     enum-told-4
     enum-known-engine
+    psn-fits-requires
     returns-2
     returns-3
     returns-4
