@@ -12,7 +12,7 @@ use Rattle.context.specs.declared.CqFound.{CqFound}
 use Rattle.context.specs.declared.EqFound.{EqFound}
 use Rattle.context.specs.declared.MptFound.{MptFound}
 use Rattle.requests.specs.Commands.{opModifierOf, onMpt, onEq, onCq, sw2hwOf, hw2swOf, resizeOf, queryOf, modifyOf, addressed, commandOf}
-use Rattle.requests.specs.Engines.{stateFrom, withState, engineOn, engineAt, engineOf}
+use Rattle.requests.specs.Engines.{stateFrom, withState, engineOn, engineAt, engineOf, psnFits}
 use Rattle.requests.specs.declared.Command.{Command}
 use Rattle.requests.specs.declared.CommandFound.{CommandFound}
 use Rattle.requests.specs.declared.CommandFound.the-variants as found
@@ -175,7 +175,7 @@ on-sound g number.ReadState n psn code t = t
 on-sound g number.ReadNext n psn code t = t
 on-sound g number.ReadAll n psn code t = t
 on-sound g (number.Write p) n psn code t =
-    by-pick (SoundEngine g) (ltb 0xffffff psn) asked.Wrong (withState p (record { 0 = n }) psn (stateFrom code)) (λ _. tt) (λ _. state-sound g p n psn (stateFrom code) t)
+    by-pick (SoundEngine g) (psnFits psn) (withState p (record { 0 = n }) psn (stateFrom code)) asked.Wrong (λ _. state-sound g p n psn (stateFrom code) t) (λ _. tt)
 
 engine-sound : (g : Logs) (k : EngineNumber) (index psn code : ℕ) → SoundEngine g (engineOf g k index psn code)
 unfolding engineOf isRecord
