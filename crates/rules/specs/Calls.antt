@@ -153,7 +153,7 @@ noteOf g (collection k buffer) (collected a out) = collectNote k out a
 noteOf g (collection k buffer) (resetDone a) = nothing
 noteOf g resetting a = nothing
 
--- ---- where demand 3 begins again: an initialisation or a reset that answers 0
+-- ---- where demand 3 begins, and where a list of calls ends
 
 abbrev pub isDone : SubmitAnswer → Bool
 isDone submit.Done = true
@@ -171,13 +171,21 @@ isInit found.Wrong = false
 unfoldable pub initialises : World → List ℕ → List ℕ → Bool
 initialises w bytes mail = pick (isInit (commandFound (w .hca .logs) bytes)) (isDone (submitCommand w bytes mail .answer)) false
 
+abbrev pub begins : World → Call → Bool
+begins w (command bytes mail) = initialises w bytes mail
+begins w (engineRequest n index psn state) = false
+begins w (step k) = false
+begins w (collection k out) = false
+begins w resetting = false
+
+-- a list of calls ends before the next initialisation, or before a reset that answers 0
 abbrev pub resetEnds : ResetAnswer → Bool
 resetEnds reset.Done = true
 resetEnds (reset.Refused c) = false
 
-abbrev pub startsAgain : World → Call → Bool
-startsAgain w (command bytes mail) = initialises w bytes mail
-startsAgain w (engineRequest n index psn state) = false
-startsAgain w (step k) = false
-startsAgain w (collection k out) = false
-startsAgain w resetting = resetEnds (resetOf w .answer)
+abbrev pub stops : World → Call → Bool
+stops w (command bytes mail) = initialises w bytes mail
+stops w (engineRequest n index psn state) = false
+stops w (step k) = false
+stops w (collection k out) = false
+stops w resetting = resetEnds (resetOf w .answer)

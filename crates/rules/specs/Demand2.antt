@@ -1,9 +1,12 @@
 -- DEMAND 2, the edges: a queue pair's state moves only along permitted edges.
 --
 -- What is claimed, and of what: after every initialisation and every list of calls, of the next call, whatever it is but another
--- initialisation or reset that answers 0: the state code of every queue pair stays, or the call is the first step of a running
--- request on that queue pair, and the state moves along an edge that is permitted, from the state code and for the service type that
--- the record has just before the step, for that request.
+-- initialisation: the state code of every queue pair stays, or the call is the first step of a running request on that queue pair,
+-- and the state moves along an edge that is permitted, from the state code and for the service type that the record has just before
+-- the step, for that request.
+--
+-- What is not claimed: that a state moves; that an initialisation keeps one (it makes all records zero: `Zeroed` in Demand3); and
+-- nothing of worlds that no list of calls leads to, since a slot that is handed in may hold a write that its record does not permit.
 use mathlib.Core.Path.{_≡_}
 use mathlib.Core.Bool.{true, false}
 use mathlib.Core.List.{List, []}
@@ -24,7 +27,7 @@ use Rattle.effects.specs.Fields.{stateOf, serviceOf}
 use Rattle.slots.specs.declared.Status.the-variants.{Running}
 use Rattle.rules.specs.World.{World, statusAt}
 use Rattle.rules.specs.Commands.{submitCommand}
-use Rattle.rules.specs.Calls.{Call, step, worldAfter, startsAgain, initialises}
+use Rattle.rules.specs.Calls.{Call, step, worldAfter, begins, initialises}
 use Rattle.rules.specs.Demand3.{runFrom}
 
 -- a request moves a queue pair's state from this code, for this service type, to the next code along an edge that is permitted for it
@@ -57,4 +60,4 @@ Statement =
     (before : World) (bytes mail : List ℕ) → initialises before bytes mail ≡ true
     → (calls : List Call) (last : Call)
     → let end : World = runFrom (submitCommand before bytes mail .world) [] calls .world in
-    startsAgain end last ≡ false → Demand2 end last
+    begins end last ≡ false → Demand2 end last

@@ -24,7 +24,7 @@ use Rattle.rules.specs.World.{World, statusAt}
 use Rattle.rules.specs.Collections.{answerAt}
 use Rattle.rules.specs.Commands.{submitCommand}
 use Rattle.rules.specs.Book.{Book, Fed, onRecord, closeHca, nop, numberOf, replyOf, afterOf}
-use Rattle.rules.specs.Calls.{Call, Note, nothing, refused, accepted, finished, emptied, answerOf, worldAfter, noteOf, startsAgain, initialises}
+use Rattle.rules.specs.Calls.{Call, Note, nothing, refused, accepted, finished, emptied, answerOf, worldAfter, noteOf, stops, initialises}
 
 -- ---- The journal: the requests of a list of calls in the order of submission, from the calls and their answers alone.
 
@@ -60,7 +60,7 @@ pub record Run : Type 0 where
 abbrev pub runFrom : World → List Entry → List Call → Run
 runFrom w J [] = record { world = w; journal = J }
 runFrom w J (c ∷ cs) =
-    pick (startsAgain w c) (record { world = w; journal = J })
+    pick (stops w c) (record { world = w; journal = J })
     (runFrom (worldAfter w c) (noted (noteOf (w .hca .logs) c (answerOf w c)) J) cs)
 
 -- ---- What is said of a run

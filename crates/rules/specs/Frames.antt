@@ -1,57 +1,67 @@
--- FRAME.
+-- FRAME: what a call changes, and what it leaves.
 --
--- What is claimed, and of what, for every world and every call: a refusal changes nothing, neither state, row, store and room nor the
--- buffer; and of every record of the store, a call other than an initialisation or reset that answers 0 makes either nothing or,
--- where it steps a slot whose running request writes that record, exactly the next burst of it by the byte rule. So an accepted
--- request changes its own record burst by burst, and no other record.
+-- What is claimed, for every world and every call:
+-- * `Refusals`: a refusal changes nothing, neither state, row, store and room nor the buffer.
+-- * `Written`, `Copied`: a step that is not refused makes exactly the next burst of its request, a write in its record by the byte
+--   rule, a read as a copy in the slot's part of the room.
+-- * `Records`, `Behind`: nothing else in the store. Of every record, a call other than an initialisation makes nothing, or the burst
+--   of a running request that writes it; bytes behind the records in use never change, by an initialisation neither.
+-- * `Rooms`, `Rows`: a call changes no byte of the room but in the part of the slot that it takes or steps, and no slot but the one
+--   that it takes, steps or collects; a reset empties all.
+-- * `Counts`: no call but an initialisation changes the counts or the length that it remembered.
+--
+-- What is not claimed here: which calls are refused, and with which number; that is what the rules say.
 use mathlib.Core.Path.{_≡_}
 use mathlib.Core.Bool.{Bool, true, false}
 use mathlib.Core.List.{List}
-use Prim.Native.Nat.{ℕ, _<_}
+use Prim.Native.Nat.{ℕ, _/_, _≤_, _<_}
+use lib.Dec.{eqb}
 use lib.ListN.{length, getD}
-use Rattle.context.specs.Layout.{isRecord, recordOf, recordSize}
+use Rattle.context.specs.Layout.{isRecord, recordOf, recordSize, inUse}
 use Rattle.context.specs.declared.Record.{Record}
 use Rattle.requests.specs.declared.Request.{Request}
 use Rattle.tables.specs.Records.{recordOf as touched, writesOf}
 use Rattle.burst_table.specs.Bursts.{burstsOf, totalOf}
 use Rattle.byte_rule.specs.Bytes.{byteOf}
 use Rattle.bursts.specs.Bursts.{burst}
+use Rattle.bursts.specs.Copies.{copy}
 use Rattle.slots.specs.declared.Status.the-variants.{Running}
 use Rattle.rules.specs.declared.SubmitAnswer.{SubmitAnswer}
 use Rattle.rules.specs.declared.SubmitAnswer.the-variants as submit
 use Rattle.rules.specs.declared.StepAnswer.{StepAnswer}
-use Rattle.rules.specs.declared.StepAnswer.the-variants as steps
+use Rattle.rules.specs.declared.StepAnswer.the-variants as stepping
 use Rattle.rules.specs.declared.CollectAnswer.{CollectAnswer}
-use Rattle.rules.specs.declared.CollectAnswer.the-variants as collects
+use Rattle.rules.specs.declared.CollectAnswer.the-variants as collecting
 use Rattle.rules.specs.declared.ResetAnswer.{ResetAnswer}
 use Rattle.rules.specs.declared.ResetAnswer.the-variants as resets
-use Rattle.rules.specs.World.{World, frontOf, statusAt}
-use Rattle.rules.specs.Calls.{Call, command, engineRequest, step, collection, resetting, Answer, submitted, stepped, collected, resetDone, answerOf, worldAfter, startsAgain}
+use Rattle.rules.specs.World.{World, slotRoom, roomOf, frontOf, statusAt}
+use Rattle.rules.specs.Steps.{stepOf}
+use Rattle.rules.specs.Calls.{Call, command, engineRequest, step, collection, resetting, Answer, submitted, stepped, collected, resetDone, answerOf, worldAfter, begins, stops}
 
 -- ---- a refusal
 
-abbrev pub submitRefused : SubmitAnswer → Bool
-submitRefused submit.Done = false
-submitRefused (submit.Accepted k) = false
-submitRefused (submit.Refused c) = true
+abbrev pub refusedSubmit : SubmitAnswer → Bool
+refusedSubmit submit.Done = false
+refusedSubmit (submit.Accepted k) = false
+refusedSubmit (submit.Refused c) = true
 
-abbrev pub stepRefused : StepAnswer → Bool
-stepRefused (steps.Left n) = false
-stepRefused (steps.Refused c) = true
+abbrev pub refusedStep : StepAnswer → Bool
+refusedStep (stepping.Left n) = false
+refusedStep (stepping.Refused c) = true
 
-abbrev pub collectRefused : CollectAnswer → Bool
-collectRefused (collects.Collected n) = false
-collectRefused (collects.Refused c) = true
+abbrev pub refusedCollect : CollectAnswer → Bool
+refusedCollect (collecting.Collected n) = false
+refusedCollect (collecting.Refused c) = true
 
-abbrev pub resetRefused : ResetAnswer → Bool
-resetRefused resets.Done = false
-resetRefused (resets.Refused c) = true
+abbrev pub refusedReset : ResetAnswer → Bool
+refusedReset resets.Done = false
+refusedReset (resets.Refused c) = true
 
 abbrev pub refusedBy : Answer → Bool
-refusedBy (submitted a) = submitRefused a
-refusedBy (stepped a) = stepRefused a
-refusedBy (collected a out) = collectRefused a
-refusedBy (resetDone a) = resetRefused a
+refusedBy (submitted a) = refusedSubmit a
+refusedBy (stepped a) = refusedStep a
+refusedBy (collected a out) = refusedCollect a
+refusedBy (resetDone a) = refusedReset a
 
 -- what the buffer of a collection holds; other calls have none
 abbrev pub bufferOf : Call → List ℕ → List ℕ
@@ -73,6 +83,21 @@ Refusals = (w : World) (c : Call) (l : List ℕ) → refusedBy (answerOf w c) �
 
 -- ---- the records
 
+-- "A step names a slot and moves one 16-byte burst of that request"; "Exactly that burst of the record is changed or copied": q runs
+-- in slot k with m bursts moved, and the step is not refused. Of a write, by the byte rule, with the mailbox bytes in the room:
+abbrev pub Written : Type 0
+Written =
+    (w : World) (k : ℕ) (q : Request) (m : ℕ) → statusAt k (w .row) ≡ Running q m → refusedStep (stepOf w k .answer) ≡ false → writesOf q ≡ true
+    → recordOf (w .hca .logs) (touched q) (stepOf w k .world .store)
+    ≡ burst (byteOf q (frontOf k q (w .room))) (getD (burstsOf q) m 0) (recordOf (w .hca .logs) (touched q) (w .store))
+
+-- "A read burst is copied to the offset in that part which it has in the record."
+abbrev pub Copied : Type 0
+Copied =
+    (w : World) (k : ℕ) (q : Request) (m : ℕ) → statusAt k (w .row) ≡ Running q m → refusedStep (stepOf w k .answer) ≡ false → writesOf q ≡ false
+    → roomOf k (stepOf w k .world .room)
+    ≡ copy (getD (burstsOf q) m 0) (recordOf (w .hca .logs) (touched q) (w .store)) (roomOf k (w .room))
+
 -- What a call makes of a record: nothing, or, where it steps a slot whose running request writes that record, exactly the next burst
 -- of it by the byte rule.
 pub data Change (w : World) (c : Call) (X : Record) (before after : List ℕ) : Type 0 where
@@ -83,5 +108,55 @@ pub data Change (w : World) (c : Call) (X : Record) (before after : List ℕ) : 
 
 abbrev pub Records : Type 0
 Records =
-    (w : World) (c : Call) → startsAgain w c ≡ false → (X : Record) → isRecord (w .hca .logs) X ≡ true
+    (w : World) (c : Call) → begins w c ≡ false → (X : Record) → isRecord (w .hca .logs) X ≡ true
     → Change w c X (recordOf (w .hca .logs) X (w .store)) (recordOf (w .hca .logs) X (worldAfter w c .store))
+
+-- "nothing else in the store"; INIT_HCA "zeroes the bytes in use, leaves the others": those behind the records in use
+abbrev pub Behind : Type 0
+Behind =
+    (w : World) (c : Call) (i : ℕ) → inUse (worldAfter w c .hca .logs) ≤ i → getD (worldAfter w c .store) i 0 ≡ getD (w .store) i 0
+
+-- ---- the other slots
+
+-- the slot that a submission takes
+abbrev pub takes : Answer → ℕ → Bool
+takes (submitted submit.Done) j = false
+takes (submitted (submit.Accepted k)) j = eqb k j
+takes (submitted (submit.Refused c)) j = false
+takes (stepped a) j = false
+takes (collected a out) j = false
+takes (resetDone a) j = false
+
+-- the slot that a step names
+abbrev pub steps : Call → ℕ → Bool
+steps (command bytes mail) j = false
+steps (engineRequest n index psn state) j = false
+steps (step k) j = eqb k j
+steps (collection k out) j = false
+steps resetting j = false
+
+-- the slot that a collection names
+abbrev pub collects : Call → ℕ → Bool
+collects (command bytes mail) j = false
+collects (engineRequest n index psn state) j = false
+collects (step k) j = false
+collects (collection k out) j = eqb k j
+collects resetting j = false
+
+-- "No other room byte changes, and collecting leaves the room as it stands.": byte i lies in the part of slot i / 256, if there is one
+abbrev pub Rooms : Type 0
+Rooms =
+    (w : World) (c : Call) (i : ℕ) → takes (answerOf w c) (i / slotRoom) ≡ false → steps c (i / slotRoom) ≡ false
+    → getD (worldAfter w c .room) i 0 ≡ getD (w .room) i 0
+
+abbrev pub Rows : Type 0
+Rows =
+    (w : World) (c : Call) → stops w c ≡ false → (j : ℕ) → takes (answerOf w c) j ≡ false → steps c j ≡ false → collects c j ≡ false
+    → statusAt j (worldAfter w c .row) ≡ statusAt j (w .row)
+
+-- ---- the counts
+
+abbrev pub Counts : Type 0
+Counts =
+    (w : World) (c : Call) → begins w c ≡ false
+    → (worldAfter w c .hca .logs ≡ w .hca .logs) × (worldAfter w c .hca .«store_len» ≡ w .hca .«store_len»)

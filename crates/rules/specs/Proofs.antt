@@ -16,5 +16,6 @@ pub mod Started
 pub mod Serial
 -- What a call leaves as it was, and demand 2:
 pub mod Submissions
+pub mod Outcomes
 pub mod Frame
 pub mod Edges

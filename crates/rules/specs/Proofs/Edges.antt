@@ -48,7 +48,7 @@ use Rattle.rules.specs.Engines.{submitEngine}
 use Rattle.rules.specs.Steps.{Stepped, storeMoved, slotMoved, moved, stepOn, stepOf}
 use Rattle.rules.specs.Collections.{Collected, collectFinished, collectOn, collectOf}
 use Rattle.rules.specs.Resets.{Reset, resetOf}
-use Rattle.rules.specs.Calls.{Call, command as commanding, engineRequest, step, collection, resetting, worldAfter, answerOf, noteOf, commandFound, isDone, isInit, initialises, resetEnds, startsAgain}
+use Rattle.rules.specs.Calls.{Call, command as commanding, engineRequest, step, collection, resetting, worldAfter, answerOf, noteOf, commandFound, isDone, isInit, initialises, resetEnds, stops}
 use Rattle.rules.specs.Demand3.{Entry, noted, Run, runFrom}
 use Rattle.rules.specs.Proofs.View.{look-valid, lent-sized, closed-free, open-fits, Runs, running, in-row}
 use Rattle.rules.specs.Proofs.Started.{Started, started}
@@ -118,12 +118,12 @@ command-judged : (w : World) (bytes mail : List ℕ) → initialises w bytes mai
 unfolding initialises closed initialised
 command-judged w bytes mail =
     command-is w (λ (s : Submitted). pick (isInit (commandFound (w .hca .logs) bytes)) (isDone (s .answer)) false ≡ false → Judged w → Judged (s .world))
-    (λ _ _ i. i) (λ q m k p _ i. judged-taken w q m k i p) (λ _ i. judged-same w (closed w) refl refl refl i) (λ _ i. i) bytes mail
+    (λ _ _ i. i) (λ q m k p _ i. judged-taken w q m k i (p .permitted)) (λ _ i. judged-same w (closed w) refl refl refl i) (λ _ i. i) bytes mail
     (λ i g e _. absurd (true≢false (sym (ap (λ (b : Bool). pick b true false) i) ∙ e)))
 
 engine-judged : (w : World) (n index psn code : ℕ) → Judged w → Judged (submitEngine w n index psn code .world)
 engine-judged w n index psn code =
-    engine-is w (λ (s : Submitted). Judged w → Judged (s .world)) (λ _ i. i) (λ q m k p i. judged-taken w q m k i p) n index psn code
+    engine-is w (λ (s : Submitted). Judged w → Judged (s .world)) (λ _ i. i) (λ q m k p i. judged-taken w q m k i (p .permitted)) n index psn code
 
 collect-on-judged : (w : World) (k : ℕ) (out : List ℕ) (s : Status) → Judged w → Judged (collectOn w k out s .world)
 unfolding collectOn collectFinished
@@ -217,7 +217,7 @@ reset-judged : (w : World) → resetEnds (resetOf w .answer) ≡ false → Judge
 unfolding resetOf
 reset-judged w = by-pick (λ (r : Reset). resetEnds (r .answer) ≡ false → Judged w → Judged (r .world)) (badRow w) _ _ (λ _ _ i. i) (λ _ e. absurd (true≢false e))
 
-call-judged : (w : World) (c : Call) → startsAgain w c ≡ false → Judged w → Judged (worldAfter w c)
+call-judged : (w : World) (c : Call) → stops w c ≡ false → Judged w → Judged (worldAfter w c)
 call-judged w (commanding bytes mail) e i = command-judged w bytes mail e i
 call-judged w (engineRequest n index psn code) e i = engine-judged w n index psn code i
 call-judged w (step k) e i = step-judged w k i
@@ -227,7 +227,7 @@ call-judged w resetting e i = reset-judged w e i
 run-judged : (w : World) (J : List Entry) (cs : List Call) → Judged w → Judged (runFrom w J cs .world)
 run-judged w J [] i = i
 run-judged w J (c ∷ cs) i =
-    by-pick (λ (r : Run). Judged (r .world)) (startsAgain w c) _ _ (λ _. i)
+    by-pick (λ (r : Run). Judged (r .world)) (stops w c) _ _ (λ _. i)
     (λ e. run-judged (worldAfter w c) (noted (noteOf (w .hca .logs) c (answerOf w c)) J) cs (call-judged w c e i))
 
 start-judged : (w : World) → Started w → Judged w

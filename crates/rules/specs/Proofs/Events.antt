@@ -55,7 +55,7 @@ use Rattle.rules.specs.Steps.{Stepped, stepOn, stepOf}
 use Rattle.rules.specs.Collections.{Collected, answerAt, collectFinished, collectOn, collectOf}
 use Rattle.rules.specs.Resets.{Reset, resetOf}
 use Rattle.rules.specs.Book.{Fed, onRecord, closeHca, nop}
-use Rattle.rules.specs.Calls.{Call, command, engineRequest, step, collection, resetting, answerOf, worldAfter, opFound as opAsked, registerFound, commandFound, numberFound, engineFound, commandNote, engineNote, collectNote, noteOf, isDone, isInit, initialises, resetEnds, startsAgain}
+use Rattle.rules.specs.Calls.{Call, command, engineRequest, step, collection, resetting, answerOf, worldAfter, opFound as opAsked, registerFound, commandFound, numberFound, engineFound, commandNote, engineNote, collectNote, noteOf, isDone, isInit, initialises, resetEnds, stops}
 use Rattle.rules.specs.Proofs.System.{Place, gate, at, gateBytes, gatedBy, Sees, Writes, eff, Left}
 use Rattle.rules.specs.Proofs.View.{lookAt, slotView, slotAt, Fine, Sized, lent-sized, closed-free, open-fits, Runs, running, look-same, others, in-row}
 use Rattle.rules.specs.Proofs.Admitted.{noteFor, stays, Seen, seen-runs, admit-ok}
@@ -267,7 +267,7 @@ reset-ok : (w : World) → resetEnds (resetOf w .answer) ≡ false → Fine w (r
 unfolding resetOf
 reset-ok w = by-pick (λ (r : Reset). resetEnds (r .answer) ≡ false → Fine w (r .world) none) (badRow w) _ _ (λ _ _. stays w) (λ _ i. absurd (true≢false i))
 
-pub call-ok : (w : World) (c : Call) → startsAgain w c ≡ false → Fine w (worldAfter w c) (noteFor (noteOf (w .hca .logs) c (answerOf w c)))
+pub call-ok : (w : World) (c : Call) → stops w c ≡ false → Fine w (worldAfter w c) (noteFor (noteOf (w .hca .logs) c (answerOf w c)))
 unfolding submitEngine stepOf collectOf
 call-ok w (command bytes mail) i = command-ok w bytes mail i
 call-ok w (engineRequest n index psn code) i =

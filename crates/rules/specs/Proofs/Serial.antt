@@ -23,7 +23,7 @@ use Rattle.rules.specs.World.{World, statusAt}
 use Rattle.rules.specs.Commands.{submitCommand}
 use Rattle.rules.specs.Collections.{answerAt}
 use Rattle.rules.specs.Book.{Book, Fed, onRecord, closeHca, nop, numberOf, replyOf, afterOf}
-use Rattle.rules.specs.Calls.{Call, Note, nothing, refused, accepted, finished, emptied, answerOf, worldAfter, noteOf, startsAgain}
+use Rattle.rules.specs.Calls.{Call, Note, nothing, refused, accepted, finished, emptied, answerOf, worldAfter, noteOf, stops}
 use Rattle.rules.specs.Demand3.{Entry, turnedAway, answered, inSlot, collectedFrom, noted, Run, runFrom, Done, done, inSlotDone, finishedIn, Writing, NotWriting, Unwritten, given, bookOf, Demand3, Statement}
 use Rattle.rules.specs.Proofs.System.{Place, gate, at, gateBytes, Writes, system}
 use Rattle.rules.specs.Proofs.Shown.{shows, plain}
@@ -70,7 +70,7 @@ run-keeps : (s : Place → List ℕ) (w : World) (J : List Entry) (cs : List Cal
     → Keeps system s (viewOf (runFrom w J cs .world)) (items (runFrom w J cs .journal))
 run-keeps s w J [] i = i
 run-keeps s w J (c ∷ cs) i =
-    by-pick (λ (r : Run). Keeps system s (viewOf (r .world)) (items (r .journal))) (startsAgain w c) _ _ (λ _. i)
+    by-pick (λ (r : Run). Keeps system s (viewOf (r .world)) (items (r .journal))) (stops w c) _ _ (λ _. i)
     (λ a. run-keeps s (worldAfter w c) (noted (noteOf (w .hca .logs) c (answerOf w c)) J) cs
     (subst (λ (l : List (Item system)). Keeps system s (viewOf (worldAfter w c)) l) (sym (items-noted (noteOf (w .hca .logs) c (answerOf w c)) J))
     (next system s (viewOf w) (viewOf (worldAfter w c)) (items J) i (call-ok w c a .event))))

@@ -1,0 +1,85 @@
+-- What a step, a collection and a reset come to, once for every claim about them: a refusal, or what is done.
+use mathlib.Core.Path.{_≡_, refl, sym, _∙_}
+use mathlib.Core.Bool.{Bool, true, false}
+use mathlib.Core.List.{List}
+use Prim.Native.Nat.{ℕ}
+use native.Mathlib.Omega.{arith}
+use lib.Dec.{ltb}
+use lib.ListN.{length, getD, set}
+use Rattle.words.specs.Choice.{by-pick}
+use Rattle.words.specs.Parts.{splice}
+use Rattle.requests.specs.declared.Request.{Request}
+use Rattle.answers.specs.Answers.{answerSize}
+use Rattle.slots.specs.Slots.{slot, leftOf, freed}
+use Rattle.rows.specs.Rows.{emptyRow}
+use Rattle.slots.specs.declared.Status.{Status}
+use Rattle.slots.specs.declared.Status.the-variants.{Free, Running, Finished}
+use Rattle.rules.specs.declared.Refusal.{Refusal}
+use Rattle.rules.specs.declared.Refusal.the-variants as cause
+use Rattle.rules.specs.declared.StepAnswer.the-variants as step
+use Rattle.rules.specs.declared.CollectAnswer.the-variants as collect
+use Rattle.rules.specs.declared.ResetAnswer.the-variants as reset
+use Rattle.rules.specs.World.{World, world, hcaOf, statusAt, badRow, badLent, badState}
+use Rattle.rules.specs.Steps.{Stepped, stepped, stepRefused, slotMoved, moved, stepOn, stepOf}
+use Rattle.rules.specs.Collections.{Collected, collected, collectRefused, answerAt, collectFinished, collectOn, collectOf}
+use Rattle.rules.specs.Resets.{Reset, resetted, resetOf}
+use Rattle.rules.specs.Proofs.View.{closed-free}
+
+-- ---- a step
+
+-- what is known of a request that a step moves
+pub record Stepping (w : World) (k : ℕ) (q : Request) (m : ℕ) : Type 0 where
+  pub lent : badLent w ≡ false
+  pub possible : badState w ≡ false
+  pub opened : w .hca .«open» ≡ true
+  pub now : statusAt k (w .row) ≡ Running q m
+
+-- a running request is one of an open adapter
+running-open : (w : World) → badState w ≡ false → (k : ℕ) (q : Request) (m : ℕ) → statusAt k (w .row) ≡ Running q m
+    → (b : Bool) → w .hca .«open» ≡ b → w .hca .«open» ≡ true
+running-open w p k q m e true o = o
+running-open w p k q m e false o =
+    let f : Running q m ≡ Free = sym e ∙ closed-free w p o k in
+    let z : _≡_ {A = ℕ} 0 1 = cc in absurd (omega arith)
+
+module _ (w : World) (k : ℕ) (P : Stepped → Type 0) (refusals : (c : Refusal) → P (stepRefused w c))
+    (moves : (q : Request) (m : ℕ) → Stepping w k q m → P (stepped (step.Left (leftOf (slotMoved w k))) (moved w k q m))) where
+  on-is : badLent w ≡ false → badState w ≡ false → (s : Status) → statusAt k (w .row) ≡ s → P (stepOn w k s)
+  unfolding stepOn
+  on-is l p Free e = refusals cause.NoRequest
+  on-is l p (Running q m) e =
+      moves q m (record { lent = l; possible = p; opened = running-open w p k q m e (w .hca .«open») refl; now = e })
+  on-is l p (Finished q m) e = refusals cause.NoRequest
+
+  pub step-is : P (stepOf w k)
+  unfolding stepOf
+  step-is =
+      by-pick P (badLent w) _ _ (λ _. refusals cause.BadLength)
+      (λ l. by-pick P (badState w) _ _ (λ _. refusals cause.Impossible) (λ p. on-is l p (statusAt k (w .row)) refl))
+
+-- ---- a collection
+
+-- what a collection of slot k leaves
+abbrev pub emptied : World → ℕ → World
+emptied w k = world (w .hca) (set (w .row) k (freed (getD (w .row) k (slot Free)))) (w .store) (w .room)
+
+module _ (w : World) (k : ℕ) (out : List ℕ) (P : Collected → Type 0) (refusals : (c : Refusal) → P (collectRefused w out c))
+    (collects : (q : Request) → P (collected (collect.Collected (answerSize q)) (emptied w k) (splice 0 (answerAt w k q) out))) where
+  from-is : (s : Status) → P (collectOn w k out s)
+  unfolding collectOn collectFinished
+  from-is Free = refusals cause.NoRequest
+  from-is (Running q m) = refusals cause.StillRunning
+  from-is (Finished q m) = by-pick P (ltb (length out) (answerSize q)) _ _ (λ _. refusals cause.ShortBuffer) (λ _. collects q)
+
+  pub collect-is : P (collectOf w k out)
+  unfolding collectOf
+  collect-is =
+      by-pick P (badLent w) _ _ (λ _. refusals cause.BadLength)
+      (λ _. by-pick P (badState w) _ _ (λ _. refusals cause.Impossible) (λ _. from-is (statusAt k (w .row))))
+
+-- ---- a reset
+
+pub reset-is : (w : World) (P : Reset → Type 0) → ((c : Refusal) → P (resetted (reset.Refused c) w))
+    → P (resetted reset.Done (world (hcaOf false (w .hca .logs) (w .hca .«store_len»)) emptyRow (w .store) (w .room))) → P (resetOf w)
+unfolding resetOf
+reset-is w P refusals done = by-pick P (badRow w) _ _ (λ _. refusals cause.BadLength) (λ _. done)
