@@ -18,4 +18,5 @@ pub mod Serial
 pub mod Submissions
 pub mod Outcomes
 pub mod Frame
+pub mod Kept
 pub mod Edges

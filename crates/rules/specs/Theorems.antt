@@ -2,10 +2,11 @@
 use mathlib.Core.Path.{_≡_, ap}
 use Prim.Native.Nat.{ℕ, suc}
 use Rattle.rules.specs.Book.{Book, Fed, numberOf, effectOf, byNumber, afterOf}
-use Rattle.rules.specs.Frames.{Refusals, Records}
+use Rattle.rules.specs.Frames.{Refusals, Written, Copied, Records, Behind, Rooms, Rows, Counts}
 use Rattle.rules.specs.Demand2.{Statement as States}
 use Rattle.rules.specs.Demand3.{Zeroed, Statement as Serial}
 use Rattle.rules.specs.Proofs.Frame as frame
+use Rattle.rules.specs.Proofs.Kept as kept
 use Rattle.rules.specs.Proofs.Edges as edges
 use Rattle.rules.specs.Proofs.Started as started
 use Rattle.rules.specs.Proofs.Serial as serial
@@ -14,9 +15,28 @@ use Rattle.rules.specs.Proofs.Serial as serial
 pub refusals : Refusals
 refusals = frame.refusals
 
--- a request changes its own record, burst by burst, and no other
+-- a step makes the next burst of its request, in the record or in the slot's part of the room
+pub written : Written
+written = kept.written
+
+pub copied : Copied
+copied = kept.copied
+
+-- and nothing else: no other record, no byte behind the records, no other slot's part of the room, no other slot, no count
 pub records : Records
 records = frame.records-framed
+
+pub behind : Behind
+behind = kept.behind
+
+pub rooms : Rooms
+rooms = kept.rooms
+
+pub rows : Rows
+rows = kept.rows
+
+pub counts : Counts
+counts = kept.counts
 
 -- a queue pair's state moves only along permitted edges
 pub demand2 : States

@@ -3,7 +3,7 @@ use mathlib.Core.Path.{_≡_, refl, sym, _∙_, ap, ap₂, subst}
 use mathlib.Core.Bool.{Bool, true, false, false≢true}
 use mathlib.Core.List.{List, [], _∷_}
 use mathlib.Core.Logic.{_⊎_, inl, inr}
-use Prim.Native.Nat.{ℕ, suc, _+_, _*_, _≤_, _<_}
+use Prim.Native.Nat.{ℕ, suc, _+_, _*_, _/_, _≤_, _<_}
 use native.Mathlib.Numerals.{add-one}
 use native.Mathlib.Decide.{decLt}
 use native.Mathlib.Omega.{arith}
@@ -12,7 +12,7 @@ use lib.Dec.{T, ltb}
 use lib.ListN.{length, getD, drop, drop-of-length-le}
 use lib.Seq.{getD-set-same, drop-cons}
 use Rattle.words.specs.Choice.{pick, by-pick}
-use Rattle.words.specs.Parts.{part}
+use Rattle.words.specs.Parts.{part, splice, length-part, splice-below, splice-above}
 use Rattle.context.specs.Layout.{isRecord, recordOf, recordAt, recordSize, inUse}
 use Rattle.context.specs.Records.{record-inside, records-apart}
 use Rattle.context.specs.Tables.{Apart}
@@ -26,7 +26,8 @@ use Rattle.tables.specs.Mailboxes.{needOf}
 use Rattle.burst_table.specs.Bursts.{burstsOf, totalOf, offsetOf}
 use Rattle.answers.specs.Answers.{answerOf}
 use Rattle.byte_rule.specs.Bytes.{byteOf}
-use Rattle.bursts.specs.Moves.{writeAt, copyAt}
+use Rattle.bursts.specs.Moves.{writtenPart, writeAt, copyAt}
+use Rattle.bursts.specs.Leaves.{length-writtenPart}
 use Rattle.bursts.specs.Bursts.{after, burst}
 use Rattle.bursts.specs.Copies.{copies, copy}
 use Rattle.bursts.specs.Table.{total-bursts, offset-burst, offset-small, offset-room, need-small, need-reader}
@@ -295,6 +296,53 @@ module _ (w : World) (z : Sized w) (fits : inUse (w .hca .logs) ≤ length (w .s
       go : (b : Bool) → writesOf q ≡ b → lookAt (moved w k q m) (at X) ≡ lookAt w (at X)
       go true wr = sym (elsewhere wr (at X) (λ y. n (sym (y .1))))
       go false rd = sym (same rd (at X))
+
+  -- a reader's burst, in the slot's part of the room
+  pub read-copied : writesOf q ≡ false → roomOf k (moved w k q m .room) ≡ copy (getD (burstsOf q) m 0) (lookAt w (at (touched q))) (roomOf k (w .room))
+  unfolding u j buf
+  read-copied rd = got rd
+
+  -- bytes behind the records stay
+  pub behind-kept : (i : ℕ) → inUse (w .hca .logs) ≤ i → getD (moved w k q m .store) i 0 ≡ getD (w .store) i 0
+  unfolding u start writeAt
+  behind-kept i h = go (writesOf q) refl
+    where
+      new : List ℕ
+      new = writtenPart q mail (16 * j) (part (start + 16 * j) 16 (w .store))
+
+      long : length new ≡ 16
+      long =
+          length-writtenPart q mail (16 * j) (part (start + 16 * j) 16 (w .store))
+          ∙ length-part (start + 16 * j) 16 (w .store) (omega (arith, record-fits, in-record))
+
+      go : (b : Bool) → writesOf q ≡ b → getD (moved w k q m .store) i 0 ≡ getD (w .store) i 0
+      go true wr =
+          ap (λ (s : List ℕ). getD s i 0) (store-is wr)
+          ∙ splice-above (start + 16 * j) new (w .store) (omega (arith, long, record-fits, in-record)) i
+          (omega (arith, long, in-record, record-inside (w .hca .logs) (touched q) valid))
+      go false rd = ap (λ (s : List ℕ). getD s i 0) (store-stays rd)
+
+  -- bytes of the room outside the slot's part stay
+  pub room-kept : (i : ℕ) → ¬ (i / slotRoom ≡ k) → getD (moved w k q m .room) i 0 ≡ getD (w .room) i 0
+  unfolding u copyAt
+  room-kept i n = go (writesOf q) refl
+    where
+      new : List ℕ
+      new = part (start + 16 * j) 16 (w .store)
+
+      long : length new ≡ 16
+      long = length-part (start + 16 * j) 16 (w .store) (omega (arith, record-fits, in-record))
+
+      fits-room : k * slotRoom + 16 * j + length new ≤ length (w .room)
+      fits-room = omega (arith, long, in-room, z .roomed, k8)
+
+      side : Dec (i < k * slotRoom) → getD (splice (k * slotRoom + 16 * j) new (w .room)) i 0 ≡ getD (w .room) i 0
+      side (yes y) = splice-below (k * slotRoom + 16 * j) new (w .room) fits-room i (omega arith)
+      side (no y) = splice-above (k * slotRoom + 16 * j) new (w .room) fits-room i (omega (arith, long, in-room, n))
+
+      go : (b : Bool) → writesOf q ≡ b → getD (moved w k q m .room) i 0 ≡ getD (w .room) i 0
+      go true wr = ap (λ (r : List ℕ). getD r i 0) (room-is wr)
+      go false rd = ap (λ (r : List ℕ). getD r i 0) (room-copied rd) ∙ side (decLt i (k * slotRoom))
 
   by-kind : (b : Bool) → writesOf q ≡ b → Dec (m + 1 < totalOf q) → Fine w u nothing
   by-kind true wr (yes h) = writer-step wr h
