@@ -32,7 +32,6 @@ use Rattle.tables.specs.Records.{recordOf as touched, writesOf}
 use Rattle.burst_table.specs.Bursts.{burstsOf, totalOf, psnBursts, psnPlace, at-burst}
 use Rattle.effects.specs.Fields.{stateOf, serviceOf}
 use Rattle.effects.specs.Permission.{permissionOf}
-use Rattle.answers.specs.Answers.{answerSize}
 use Rattle.byte_rule.specs.Bytes.{byteOf}
 use Rattle.bursts.specs.Bursts.{burst, burst-out, fit-at}
 use Rattle.bursts.specs.Table.{bursts-room, total-bursts}
@@ -40,22 +39,23 @@ use Rattle.bursts.specs.Effects.{state-first}
 use Rattle.slots.specs.Slots.{slot, advanced, advancedStatus}
 use Rattle.slots.specs.declared.Slot.{Slot}
 use Rattle.slots.specs.declared.Status.{Status}
-use Rattle.slots.specs.declared.Status.the-variants.{Free, Running, Finished}
-use Rattle.rules.specs.World.{World, frontOf, statusAt, badLent, badState, badRow}
+use Rattle.slots.specs.declared.Status.the-variants.{Free, Running}
+use Rattle.rules.specs.World.{World, frontOf, statusAt, badState}
 use Rattle.rules.specs.Admission.{Submitted, recordNow, taken}
 use Rattle.rules.specs.Commands.{initialised, closed, submitCommand}
 use Rattle.rules.specs.Engines.{submitEngine}
-use Rattle.rules.specs.Steps.{Stepped, storeMoved, slotMoved, moved, stepOn, stepOf}
-use Rattle.rules.specs.Collections.{Collected, collectFinished, collectOn, collectOf}
+use Rattle.rules.specs.Steps.{Stepped, storeMoved, slotMoved, moved, stepOf}
+use Rattle.rules.specs.Collections.{Collected, collectOf}
 use Rattle.rules.specs.Resets.{Reset, resetOf}
 use Rattle.rules.specs.Calls.{Call, command as commanding, engineRequest, step, collection, resetting, worldAfter, answerOf, noteOf, commandFound, isDone, isInit, initialises, resetEnds, stops}
 use Rattle.rules.specs.Demand3.{Entry, noted, Run, runFrom}
-use Rattle.rules.specs.Proofs.View.{look-valid, lent-sized, closed-free, open-fits, Runs, running, in-row}
+use Rattle.rules.specs.Proofs.View.{look-valid, lent-sized, open-fits, Runs, running, in-row}
 use Rattle.rules.specs.Proofs.Started.{Started, started}
 use Rattle.rules.specs.Proofs.Moved.{other-record}
 use Rattle.states.specs.Laws.{writer-alone}
 use Rattle.rules.specs.Frames.{Change, kept, burstMoved}
 use Rattle.rules.specs.Proofs.Submissions.{command-is, engine-is}
+use Rattle.rules.specs.Proofs.Outcomes.{Stepping, step-is, collect-is, reset-is}
 use Rattle.rules.specs.Proofs.Frame.{records-framed}
 use Rattle.rules.specs.Demand2.{Along, StateMove, stays, moves, Statement}
 
@@ -125,68 +125,49 @@ engine-judged : (w : World) (n index psn code : ℕ) → Judged w → Judged (su
 engine-judged w n index psn code =
     engine-is w (λ (s : Submitted). Judged w → Judged (s .world)) (λ _ i. i) (λ q m k p i. judged-taken w q m k i (p .permitted)) n index psn code
 
-collect-on-judged : (w : World) (k : ℕ) (out : List ℕ) (s : Status) → Judged w → Judged (collectOn w k out s .world)
-unfolding collectOn collectFinished
-collect-on-judged w k out Free i = i
-collect-on-judged w k out (Running q m) i = i
-collect-on-judged w k out (Finished q m) i =
-    by-pick (λ (c : Collected). Judged (c .world)) (ltb (length out) (answerSize q)) _ _ (λ _. i) (λ _. judged-free w _ k i refl refl refl)
-
 collect-judged : (w : World) (k : ℕ) (out : List ℕ) → Judged w → Judged (collectOf w k out .world)
-unfolding collectOf
-collect-judged w k out i =
-    by-pick (λ (c : Collected). Judged (c .world)) (badLent w) _ _ (λ _. i)
-    (λ _. by-pick (λ (c : Collected). Judged (c .world)) (badState w) _ _ (λ _. i) (λ _. collect-on-judged w k out (statusAt k (w .row)) i))
+collect-judged w k out i = collect-is w k out (λ (c : Collected). Judged (c .world)) (λ _. i) (λ _ _. judged-free w _ k i refl refl refl)
 
 advanced-is : (row : List Slot) (k : ℕ) (s : Status) → statusAt k row ≡ s → advanced (getD row k (slot Free)) .status ≡ advancedStatus s
 unfolding statusAt
 advanced-is row k s e = ap advancedStatus e
 
 -- a burst of another request: what a request that has moved none is judged by stays
-module _ (w : World) (lent : badLent w ≡ false) (state : badState w ≡ false) (k : ℕ) (q : Request) (m : ℕ) (now : statusAt k (w .row) ≡ Running q m) where
-  opened : w .hca .«open» ≡ true
-  opened = go (w .hca .«open») refl
-    where
-      go : (b : Bool) → w .hca .«open» ≡ b → w .hca .«open» ≡ true
-      go true o = o
-      go false o =
-          let f : Running q m ≡ Free = sym now ∙ closed-free w state o k in
-          let z : _≡_ {A = ℕ} 0 1 = cc in absurd (omega arith)
-
+module _ (w : World) (k : ℕ) (q : Request) (m : ℕ) (s : Stepping w k q m) where
   -- no burst leaves a slot running with none moved
   never-first : (r : Request) → advancedStatus (Running q m) ≡ Running r 0 → ⊥
-  never-first r = by-pick (λ (s : Status). s ≡ Running r 0 → ⊥) (ltb (m + 1) (totalOf q)) _ _
+  never-first r = by-pick (λ (x : Status). x ≡ Running r 0 → ⊥) (ltb (m + 1) (totalOf q)) _ _
       (λ _ e. let f : m + 1 ≡ 0 = cc in omega arith)
       (λ _ e. let z : _≡_ {A = ℕ} 0 1 = cc in omega arith)
 
   record-kept : (j : ℕ) (r : Request) → ¬ (j ≡ k) → statusAt j (w .row) ≡ Running r 0 → recordNow (moved w k q m) r ≡ recordNow w r
   unfolding recordNow moved storeMoved badState statusAt
-  record-kept j r d s = go (record? (touched q) (touched r)) (writesOf q) refl
+  record-kept j r d e = go (record? (touched q) (touched r)) (writesOf q) refl
     where
       mine : Runs w q m
-      mine = running w state opened k q m now
+      mine = running w (s .possible) (s .opened) k q m (s .now)
 
       other : isRecord (w .hca .logs) (touched r) ≡ true
-      other = running w state opened j r 0 s .valid
+      other = running w (s .possible) (s .opened) j r 0 e .valid
 
       go : Dec (touched q ≡ touched r) → (b : Bool) → writesOf q ≡ b
           → recordOf (w .hca .logs) (touched r) (moved w k q m .store) ≡ recordOf (w .hca .logs) (touched r) (w .store)
-      go (no n) b e =
+      go (no n) b f =
           sym (look-valid (moved w k q m) (touched r) other)
-          ∙ other-record w (lent-sized w lent) (open-fits w lent state opened) k q m now (mine .valid) (mine .more) (touched r) n
+          ∙ other-record w (lent-sized w (s .lent)) (open-fits w (s .lent) (s .possible) (s .opened)) k q m (s .now) (mine .valid) (mine .more) (touched r) n
           ∙ look-valid w (touched r) other
-      go (yes y) true e = absurd (writer-alone (w .hca) (w .row) opened state k j (λ f. d (sym f)) q m r 0 now s y e)
-      go (yes y) false e = rw e
+      go (yes y) true f = absurd (writer-alone (w .hca) (w .row) (s .opened) (s .possible) k j (λ h. d (sym h)) q m r 0 (s .now) e y f)
+      go (yes y) false f = rw f
 
   burst-judged : Judged w → Judged (moved w k q m)
   unfolding Judged moved slotMoved
-  burst-judged i j r s wr = go (slot-cases (w .row) k j (advanced (getD (w .row) k (slot Free))))
+  burst-judged i j r e wr = go (slot-cases (w .row) k j (advanced (getD (w .row) k (slot Free))))
     where
       next : advanced (getD (w .row) k (slot Free)) .status ≡ advancedStatus (Running q m)
-      next = advanced-is (w .row) k (Running q m) now
+      next = advanced-is (w .row) k (Running q m) (s .now)
 
       occupied : ¬ (statusAt k (w .row) ≡ Free)
-      occupied f = let c : Running q m ≡ Free = sym now ∙ f in let z : _≡_ {A = ℕ} 0 1 = cc in omega arith
+      occupied f = let c : Running q m ≡ Free = sym (s .now) ∙ f in let z : _≡_ {A = ℕ} 0 1 = cc in omega arith
 
       stays-judged : statusAt j (w .row) ≡ Running r 0 → ¬ (j ≡ k) → permissionOf r (recordNow (moved w k q m) r) ≡ Permitted
       stays-judged f d = ap (permissionOf r) (record-kept j r d f) ∙ i j r f wr
@@ -194,28 +175,18 @@ module _ (w : World) (lent : badLent w ≡ false) (state : badState w ≡ false)
       go : (statusAt j (set (w .row) k (advanced (getD (w .row) k (slot Free)))) ≡ advanced (getD (w .row) k (slot Free)) .status)
           ⊎ ((statusAt j (set (w .row) k (advanced (getD (w .row) k (slot Free)))) ≡ statusAt j (w .row)) × ((j ≡ k → ⊥) ⊎ (length (w .row) ≤ k)))
           → permissionOf r (recordNow (moved w k q m) r) ≡ Permitted
-      go (inl x) = absurd (never-first r (sym next ∙ sym x ∙ s))
+      go (inl x) = absurd (never-first r (sym next ∙ sym x ∙ e))
       go (inr x) = apart (x .1)
         where
           apart : (j ≡ k → ⊥) ⊎ (length (w .row) ≤ k) → permissionOf r (recordNow (moved w k q m) r) ≡ Permitted
-          apart (inl d) = stays-judged (sym (x .0) ∙ s) d
-          apart (inr h) = absurd (omega (arith, in-row w (lent-sized w lent) k occupied, lent-sized w lent .rowed))
-
-step-on-judged : (w : World) → badLent w ≡ false → badState w ≡ false → (k : ℕ) (s : Status) → statusAt k (w .row) ≡ s → Judged w → Judged (stepOn w k s .world)
-unfolding stepOn
-step-on-judged w a b k Free e i = i
-step-on-judged w a b k (Running q m) e i = burst-judged w a b k q m e i
-step-on-judged w a b k (Finished q m) e i = i
+          apart (inl d) = stays-judged (sym (x .0) ∙ e) d
+          apart (inr h) = absurd (omega (arith, in-row w (lent-sized w (s .lent)) k occupied, lent-sized w (s .lent) .rowed))
 
 step-judged : (w : World) (k : ℕ) → Judged w → Judged (stepOf w k .world)
-unfolding stepOf
-step-judged w k i =
-    by-pick (λ (s : Stepped). Judged (s .world)) (badLent w) _ _ (λ _. i)
-    (λ a. by-pick (λ (s : Stepped). Judged (s .world)) (badState w) _ _ (λ _. i) (λ b. step-on-judged w a b k (statusAt k (w .row)) refl i))
+step-judged w k i = step-is w k (λ (s : Stepped). Judged (s .world)) (λ _. i) (λ q m s. burst-judged w k q m s i)
 
 reset-judged : (w : World) → resetEnds (resetOf w .answer) ≡ false → Judged w → Judged (resetOf w .world)
-unfolding resetOf
-reset-judged w = by-pick (λ (r : Reset). resetEnds (r .answer) ≡ false → Judged w → Judged (r .world)) (badRow w) _ _ (λ _ _ i. i) (λ _ e. absurd (true≢false e))
+reset-judged w = reset-is w (λ (r : Reset). resetEnds (r .answer) ≡ false → Judged w → Judged (r .world)) (λ _ _ i. i) (λ e. absurd (true≢false e))
 
 call-judged : (w : World) (c : Call) → stops w c ≡ false → Judged w → Judged (worldAfter w c)
 call-judged w (commanding bytes mail) e i = command-judged w bytes mail e i

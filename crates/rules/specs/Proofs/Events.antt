@@ -6,7 +6,7 @@ use Prim.Native.Nat.{ℕ, _*_, _≤_, _<_}
 use native.Mathlib.Omega.{arith}
 use borrow.Author.Tests.{ltb-false, not-false}
 use lib.Dec.{ltb}
-use lib.ListN.{length, getD, set, take}
+use lib.ListN.{length, take}
 use lib.Seq.{getD-set-same}
 use Rattle.words.specs.Choice.{pick, both, either, by-pick}
 use Rattle.words.specs.Parts.{part, splice, length-part, part-splice}
@@ -34,31 +34,31 @@ use Rattle.requests.specs.declared.Request.{Request}
 use Rattle.requests.specs.declared.Request.the-variants as request
 use Rattle.answers.specs.Answers.{answerSize}
 use Rattle.answers.specs.Laws.{length-answer}
-use Rattle.slots.specs.Slots.{slot, freed as freedSlot, isOccupied, hasCommand, occupiedStatus}
+use Rattle.slots.specs.Slots.{slot, isOccupied, hasCommand, occupiedStatus}
 use Rattle.words.specs.Tests.{neither-left, neither-right}
 use Rattle.rows.specs.Every.{none-each}
 use Rattle.rows.specs.Rows.{anySlot}
 use Rattle.slots.specs.declared.Slot.{Slot}
-use Rattle.slots.specs.declared.Status.{Status}
-use Rattle.slots.specs.declared.Status.the-variants.{Free, Running, Finished}
+use Rattle.slots.specs.declared.Status.the-variants.{Free, Finished}
 use Rattle.serial.specs.Slots.{nothing as none, at-once, collected, runs, ended, once, collect as collecting}
 use Rattle.rules.specs.declared.Refusal.{Refusal}
 use Rattle.rules.specs.declared.Refusal.the-variants as cause
 use Rattle.rules.specs.declared.CollectAnswer.the-variants as collect
 use Rattle.rules.specs.declared.SubmitAnswer.the-variants as submit
 use Rattle.rules.specs.Numbers.{forState}
-use Rattle.rules.specs.World.{World, world, slotRoom, roomOf, frontOf, statusAt, badLent, badState, badRow}
+use Rattle.rules.specs.World.{World, slotRoom, roomOf, frontOf, statusAt, badLent, badState}
 use Rattle.rules.specs.Admission.{Submitted, refused}
 use Rattle.rules.specs.Commands.{initialised, closed, asked, badSystem, isClose, busy, served, register, submitCommand}
 use Rattle.rules.specs.Engines.{engineAsked, engineServed, submitEngine}
-use Rattle.rules.specs.Steps.{Stepped, stepOn, stepOf}
-use Rattle.rules.specs.Collections.{Collected, answerAt, collectFinished, collectOn, collectOf}
+use Rattle.rules.specs.Steps.{Stepped, moved, stepOf}
+use Rattle.rules.specs.Collections.{Collected, answerAt, collectOf}
 use Rattle.rules.specs.Resets.{Reset, resetOf}
 use Rattle.rules.specs.Book.{Fed, onRecord, closeHca, nop}
 use Rattle.rules.specs.Calls.{Call, command, engineRequest, step, collection, resetting, answerOf, worldAfter, opFound as opAsked, registerFound, commandFound, numberFound, engineFound, commandNote, engineNote, collectNote, noteOf, isDone, isInit, initialises, resetEnds, stops}
 use Rattle.rules.specs.Proofs.System.{Place, gate, at, gateBytes, gatedBy, Sees, Writes, eff, Left}
-use Rattle.rules.specs.Proofs.View.{lookAt, slotView, slotAt, Fine, Sized, lent-sized, closed-free, open-fits, Runs, running, look-same, others, in-row}
+use Rattle.rules.specs.Proofs.View.{lookAt, slotView, slotAt, Fine, Sized, lent-sized, open-fits, Runs, running, look-same, others, in-row}
 use Rattle.rules.specs.Proofs.Admitted.{noteFor, stays, Seen, seen-runs, admit-ok}
+use Rattle.rules.specs.Proofs.Outcomes.{Stepping, Collecting, freedAt, step-is, collect-is, reset-is}
 use Rattle.rules.specs.Proofs.Moved.{moved-ok}
 use Rattle.rules.specs.Proofs.Found.{command-valid, record-open, close-open, close-op, engine-valid}
 
@@ -77,6 +77,52 @@ engine-quiet asked′.Wrong c h = refl
 engine-plainly : (w : World) (f : EngineFound) (c : Refusal) → forState c ≡ false → Fine w w (noteFor (engineNote f (submit.Refused c)))
 engine-plainly w f c h = subst (Fine w w) (engine-quiet f c h) (stays w)
 
+-- ---- a step
+
+step-ok : (w : World) (k : ℕ) → Fine w (stepOf w k .world) none
+step-ok w k = step-is w k (λ (s : Stepped). Fine w (s .world) none) (λ _. stays w) moves
+  where
+    moves : (q : Request) (m : ℕ) → Stepping w k q m → Fine w (moved w k q m) none
+    moves q m s =
+        let r : Runs w q m = running w (s .possible) (s .opened) k q m (s .now) in
+        moved-ok w (lent-sized w (s .lent)) (open-fits w (s .lent) (s .possible) (s .opened)) k q m (s .now) (r .valid) (r .more)
+
+-- ---- a collection
+
+module _ (w : World) (k : ℕ) (out : List ℕ) (q : Request) (c : Collecting w k out q) where
+  sized : Sized w
+  sized = lent-sized w (c .lent)
+
+  k8 : k < 8
+  k8 = in-row w sized k (λ f. let g : Finished q (c .moves) ≡ Free = sym (c .now) ∙ f in let x : _≡_ {A = ℕ} 0 1 = cc in omega arith)
+
+  long : length (answerAt w k q) ≡ answerSize q
+  unfolding answerAt roomOf
+  long = length-answer q (part (k * slotRoom) slotRoom (w .room)) (omega (arith, length-part (k * slotRoom) slotRoom (w .room) (omega (arith, sized .roomed, k8))))
+
+  -- the front of the buffer is the answer
+  wrote : take (answerSize q) (splice 0 (answerAt w k q) out) ≡ answerAt w k q
+  unfolding part
+  wrote =
+      ap (λ (n : ℕ). take n (splice 0 (answerAt w k q) out)) (sym long)
+      ∙ part-splice 0 (answerAt w k q) out (omega (arith, long, ltb-false (length out) (answerSize q) (c .enough)))
+
+  freed-ok : Fine w (freedAt w k) (noteFor (collectNote k (splice 0 (answerAt w k q) out) (collect.Collected (answerSize q))))
+  unfolding answerAt statusAt
+  freed-ok =
+      subst (λ (a : List ℕ). Fine w (freedAt w k) (collected k a)) (sym wrote)
+      (record {
+        ended = [];
+        event =
+            collecting (onRecord q (frontOf k q (w .room))) (ap (slotView k (w .room)) (c .now))
+            (ap (λ (s : Slot). slotView k (w .room) (s .status)) (getD-set-same (w .row) k (slot Free) (slot Free) (omega (arith, sized .rowed, k8))))
+            (others w (freedAt w k) k (slot Free) sized refl (λ j _ _. refl) (λ j r _ _. refl)) (look-same w (freedAt w k) refl refl);
+      })
+
+collect-ok : (w : World) (k : ℕ) (out : List ℕ) → Fine w (collectOf w k out .world) (noteFor (collectNote k (collectOf w k out .out) (collectOf w k out .answer)))
+collect-ok w k out =
+    collect-is w k out (λ (c : Collected). Fine w (c .world) (noteFor (collectNote k (c .out) (c .answer)))) (λ _. stays w) (freed-ok w k out)
+
 -- ---- a world that passed the first two rows
 
 module _ (w : World) (lent : badLent w ≡ false) (state : badState w ≡ false) where
@@ -85,63 +131,6 @@ module _ (w : World) (lent : badLent w ≡ false) (state : badState w ≡ false)
 
   in-store : w .hca .«open» ≡ true → inUse (w .hca .logs) ≤ length (w .store)
   in-store = open-fits w lent state
-
-  -- ---- a step
-
-  stepped-ok : (k : ℕ) (s : Status) → statusAt k (w .row) ≡ s → Fine w (stepOn w k s .world) none
-  unfolding stepOn
-  stepped-ok k Free e = stays w
-  stepped-ok k (Running q m) e = go (w .hca .«open») refl
-    where
-      go : (b : Bool) → w .hca .«open» ≡ b → Fine w (stepOn w k (Running q m) .world) none
-      go true o =
-          let r : Runs w q m = running w state o k q m e in
-          moved-ok w z (in-store o) k q m e (r .valid) (r .more)
-      go false o =
-          let f : Running q m ≡ Free = sym e ∙ closed-free w state o k in
-          let x : _≡_ {A = ℕ} 0 1 = cc in absurd (omega arith)
-  stepped-ok k (Finished q m) e = stays w
-
-  -- ---- a collection
-
-  module _ (k : ℕ) (q : Request) (m : ℕ) (now : statusAt k (w .row) ≡ Finished q m) (out : List ℕ) (enough : answerSize q ≤ length out) where
-    k8 : k < 8
-    k8 = in-row w z k (λ f. let g : Finished q m ≡ Free = sym now ∙ f in let x : _≡_ {A = ℕ} 0 1 = cc in omega arith)
-
-    long : length (answerAt w k q) ≡ answerSize q
-    unfolding answerAt roomOf
-    long = length-answer q (part (k * slotRoom) slotRoom (w .room)) (omega (arith, length-part (k * slotRoom) slotRoom (w .room) (omega (arith, z .roomed, k8))))
-
-    -- the front of the buffer is the answer
-    wrote : take (answerSize q) (splice 0 (answerAt w k q) out) ≡ answerAt w k q
-    unfolding part
-    wrote =
-        ap (λ (n : ℕ). take n (splice 0 (answerAt w k q) out)) (sym long)
-        ∙ part-splice 0 (answerAt w k q) out (omega (arith, long))
-
-    freed : World
-    freed = world (w .hca) (set (w .row) k (freedSlot (getD (w .row) k (slot Free)))) (w .store) (w .room)
-
-    freed-ok : Fine w freed (noteFor (collectNote k (splice 0 (answerAt w k q) out) (collect.Collected (answerSize q))))
-    unfolding freed answerAt statusAt
-    freed-ok =
-        subst (λ (a : List ℕ). Fine w freed (collected k a)) (sym wrote)
-        (record {
-          ended = [];
-          event =
-              collecting (onRecord q (frontOf k q (w .room))) (ap (slotView k (w .room)) now)
-              (ap (λ (s : Slot). slotView k (w .room) (s .status)) (getD-set-same (w .row) k (slot Free) (slot Free) (omega (arith, z .rowed, k8))))
-              (others w freed k (slot Free) z refl (λ j _ _. refl) (λ j r _ _. refl)) (look-same w freed refl refl);
-        })
-
-  collected-ok : (k : ℕ) (out : List ℕ) (s : Status) → statusAt k (w .row) ≡ s
-      → Fine w (collectOn w k out s .world) (noteFor (collectNote k (collectOn w k out s .out) (collectOn w k out s .answer)))
-  unfolding collectOn collectFinished freed
-  collected-ok k out Free e = stays w
-  collected-ok k out (Running q m) e = stays w
-  collected-ok k out (Finished q m) e =
-      by-pick (λ (c : Collected). Fine w (c .world) (noteFor (collectNote k (c .out) (c .answer)))) (ltb (length out) (answerSize q)) _ _
-      (λ _. stays w) (λ h. freed-ok k q m e out (ltb-false (length out) (answerSize q) h))
 
   -- ---- commands that are done at once
 
@@ -264,23 +253,16 @@ command-ok w bytes mail =
 
 -- a reset that is refused
 reset-ok : (w : World) → resetEnds (resetOf w .answer) ≡ false → Fine w (resetOf w .world) none
-unfolding resetOf
-reset-ok w = by-pick (λ (r : Reset). resetEnds (r .answer) ≡ false → Fine w (r .world) none) (badRow w) _ _ (λ _ _. stays w) (λ _ i. absurd (true≢false i))
+reset-ok w = reset-is w (λ (r : Reset). resetEnds (r .answer) ≡ false → Fine w (r .world) none) (λ _ _. stays w) (λ i. absurd (true≢false i))
 
 pub call-ok : (w : World) (c : Call) → stops w c ≡ false → Fine w (worldAfter w c) (noteFor (noteOf (w .hca .logs) c (answerOf w c)))
-unfolding submitEngine stepOf collectOf
+unfolding submitEngine
 call-ok w (command bytes mail) i = command-ok w bytes mail i
 call-ok w (engineRequest n index psn code) i =
     let f : EngineFound = engineFound (w .hca .logs) n index psn code in
     by-pick (λ (s : Submitted). Fine w (s .world) (noteFor (engineNote f (s .answer)))) (badLent w) _ _ (λ _. engine-plainly w f cause.BadLength refl)
     (λ a. by-pick (λ (s : Submitted). Fine w (s .world) (noteFor (engineNote f (s .answer)))) (badState w) _ _ (λ _. engine-plainly w f cause.Impossible refl)
     (λ b. engine-served-ok w a b index psn code (numberOf n)))
-call-ok w (step k) i =
-    by-pick (λ (s : Stepped). Fine w (s .world) none) (badLent w) _ _ (λ _. stays w)
-    (λ a. by-pick (λ (s : Stepped). Fine w (s .world) none) (badState w) _ _ (λ _. stays w)
-    (λ b. stepped-ok w a b k (statusAt k (w .row)) refl))
-call-ok w (collection k out) i =
-    by-pick (λ (c : Collected). Fine w (c .world) (noteFor (collectNote k (c .out) (c .answer)))) (badLent w) _ _ (λ _. stays w)
-    (λ a. by-pick (λ (c : Collected). Fine w (c .world) (noteFor (collectNote k (c .out) (c .answer)))) (badState w) _ _ (λ _. stays w)
-    (λ b. collected-ok w a b k out (statusAt k (w .row)) refl))
+call-ok w (step k) i = step-ok w k
+call-ok w (collection k out) i = collect-ok w k out
 call-ok w resetting i = reset-ok w i

@@ -50,7 +50,7 @@ step-leaves w k = step-is w k (λ (s : Stepped). refusedStep (s .answer) ≡ tru
 collect-leaves : (w : World) (k : ℕ) (out : List ℕ) → refusedCollect (collectOf w k out .answer) ≡ true
     → (collectOf w k out .world ≡ w) × (collectOf w k out .out ≡ out)
 collect-leaves w k out =
-    collect-is w k out (λ (c : Collected). refusedCollect (c .answer) ≡ true → (c .world ≡ w) × (c .out ≡ out)) (λ _ _. (refl, refl)) (λ _. no-refusal)
+    collect-is w k out (λ (c : Collected). refusedCollect (c .answer) ≡ true → (c .world ≡ w) × (c .out ≡ out)) (λ _ _. (refl, refl)) (λ _ _. no-refusal)
 
 reset-leaves : (w : World) → refusedReset (resetOf w .answer) ≡ true → resetOf w .world ≡ w
 reset-leaves w = reset-is w (λ (r : Reset). refusedReset (r .answer) ≡ true → r .world ≡ w) (λ _ _. refl) no-refusal
@@ -77,7 +77,7 @@ unfolding taken
 engine-stores w n index psn code = engine-is w (λ (s : Submitted). s .world .store ≡ w .store) (λ _. refl) (λ _ _ _ _. refl) n index psn code
 
 collect-stores : (w : World) (k : ℕ) (out : List ℕ) → collectOf w k out .world .store ≡ w .store
-collect-stores w k out = collect-is w k out (λ (c : Collected). c .world .store ≡ w .store) (λ _. refl) (λ _. refl)
+collect-stores w k out = collect-is w k out (λ (c : Collected). c .world .store ≡ w .store) (λ _. refl) (λ _ _. refl)
 
 reset-stores : (w : World) → resetOf w .world .store ≡ w .store
 reset-stores w = reset-is w (λ (r : Reset). r .world .store ≡ w .store) (λ _. refl) refl

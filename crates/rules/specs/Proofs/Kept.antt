@@ -126,7 +126,7 @@ behind w (command bytes mail) i =
 behind w (engineRequest n index psn code) i =
     engine-is w (λ (s : Submitted). BehindKept w i (s .world)) (λ _ _. refl) (λ _ _ _ _ _. refl) n index psn code
 behind w (step k) i = step-is w k (λ (s : Stepped). BehindKept w i (s .world)) (λ _ _. refl) (λ q m s h. moved-behind w k q m s i h)
-behind w (collection k out) i = collect-is w k out (λ (c : Collected). BehindKept w i (c .world)) (λ _ _. refl) (λ _ _. refl)
+behind w (collection k out) i = collect-is w k out (λ (c : Collected). BehindKept w i (c .world)) (λ _ _. refl) (λ _ _ _. refl)
 behind w resetting i = reset-is w (λ (r : Reset). BehindKept w i (r .world)) (λ _ _. refl) (λ _. refl)
 
 -- ---- the room and the row
@@ -168,7 +168,7 @@ rooms w (engineRequest n index psn code) i e f =
     engine-is w (RoomKept w i) (λ _ _. refl) (λ q m k t h. taken-rooms w q m k t i (not-same k (i / slotRoom) h)) n index psn code e
 rooms w (step k) i e f =
     step-is w k (λ (s : Stepped). getD (s .world .room) i 0 ≡ getD (w .room) i 0) (λ _. refl) (λ q m s. moved-rooms w k q m s i (not-same k (i / slotRoom) f))
-rooms w (collection k out) i e f = collect-is w k out (λ (c : Collected). getD (c .world .room) i 0 ≡ getD (w .room) i 0) (λ _. refl) (λ _. refl)
+rooms w (collection k out) i e f = collect-is w k out (λ (c : Collected). getD (c .world .room) i 0 ≡ getD (w .room) i 0) (λ _. refl) (λ _ _. refl)
 rooms w resetting i e f = reset-is w (λ (r : Reset). getD (r .world .room) i 0 ≡ getD (w .room) i 0) (λ _. refl) refl
 
 -- a row in which slot k was set
@@ -190,7 +190,7 @@ rows w (step k) e j f g h =
     step-is w k (λ (s : Stepped). statusAt j (s .world .row) ≡ statusAt j (w .row)) (λ _. refl) (λ q m s. set-other (w .row) k j (slotMoved w k) g)
 rows w (collection k out) e j f g h =
     collect-is w k out (λ (c : Collected). statusAt j (c .world .row) ≡ statusAt j (w .row)) (λ _. refl)
-    (λ q. set-other (w .row) k j (freed (getD (w .row) k (slot Free))) h)
+    (λ q _. set-other (w .row) k j (freed (getD (w .row) k (slot Free))) h)
 rows w resetting e j f g h =
     reset-is w (λ (r : Reset). resetEnds (r .answer) ≡ false → statusAt j (r .world .row) ≡ statusAt j (w .row)) (λ _ _. refl) (λ d. absurd (true≢false d)) e
 
@@ -208,5 +208,5 @@ counts w (command bytes mail) e =
 counts w (engineRequest n index psn code) e =
     engine-is w (λ (s : Submitted). CountsKept w (s .world)) (λ _. (refl, refl)) (λ _ _ _ _. (refl, refl)) n index psn code
 counts w (step k) e = step-is w k (λ (s : Stepped). CountsKept w (s .world)) (λ _. (refl, refl)) (λ _ _ _. (refl, refl))
-counts w (collection k out) e = collect-is w k out (λ (c : Collected). CountsKept w (c .world)) (λ _. (refl, refl)) (λ _. (refl, refl))
+counts w (collection k out) e = collect-is w k out (λ (c : Collected). CountsKept w (c .world)) (λ _. (refl, refl)) (λ _ _. (refl, refl))
 counts w resetting e = reset-is w (λ (r : Reset). CountsKept w (r .world)) (λ _. (refl, refl)) (refl, refl)

@@ -60,22 +60,31 @@ module _ (w : World) (k : ℕ) (P : Stepped → Type 0) (refusals : (c : Refusal
 -- ---- a collection
 
 -- what a collection of slot k leaves
-abbrev pub emptied : World → ℕ → World
-emptied w k = world (w .hca) (set (w .row) k (freed (getD (w .row) k (slot Free)))) (w .store) (w .room)
+abbrev pub freedAt : World → ℕ → World
+freedAt w k = world (w .hca) (set (w .row) k (freed (getD (w .row) k (slot Free)))) (w .store) (w .room)
+
+-- what is known of a request that is collected
+pub record Collecting (w : World) (k : ℕ) (out : List ℕ) (q : Request) : Type 0 where
+  pub lent : badLent w ≡ false
+  pub moves : ℕ
+  pub now : statusAt k (w .row) ≡ Finished q moves
+  pub enough : ltb (length out) (answerSize q) ≡ false
 
 module _ (w : World) (k : ℕ) (out : List ℕ) (P : Collected → Type 0) (refusals : (c : Refusal) → P (collectRefused w out c))
-    (collects : (q : Request) → P (collected (collect.Collected (answerSize q)) (emptied w k) (splice 0 (answerAt w k q) out))) where
-  from-is : (s : Status) → P (collectOn w k out s)
+    (collects : (q : Request) → Collecting w k out q → P (collected (collect.Collected (answerSize q)) (freedAt w k) (splice 0 (answerAt w k q) out))) where
+  from-is : badLent w ≡ false → (s : Status) → statusAt k (w .row) ≡ s → P (collectOn w k out s)
   unfolding collectOn collectFinished
-  from-is Free = refusals cause.NoRequest
-  from-is (Running q m) = refusals cause.StillRunning
-  from-is (Finished q m) = by-pick P (ltb (length out) (answerSize q)) _ _ (λ _. refusals cause.ShortBuffer) (λ _. collects q)
+  from-is l Free e = refusals cause.NoRequest
+  from-is l (Running q m) e = refusals cause.StillRunning
+  from-is l (Finished q m) e =
+      by-pick P (ltb (length out) (answerSize q)) _ _ (λ _. refusals cause.ShortBuffer)
+      (λ n. collects q (record { lent = l; moves = m; now = e; enough = n }))
 
   pub collect-is : P (collectOf w k out)
   unfolding collectOf
   collect-is =
       by-pick P (badLent w) _ _ (λ _. refusals cause.BadLength)
-      (λ _. by-pick P (badState w) _ _ (λ _. refusals cause.Impossible) (λ _. from-is (statusAt k (w .row))))
+      (λ l. by-pick P (badState w) _ _ (λ _. refusals cause.Impossible) (λ _. from-is l (statusAt k (w .row)) refl))
 
 -- ---- a reset
 
