@@ -1,4 +1,4 @@
--- The end of both submissions, from the mailbox's length to the slot: the last six rows of the table of refusals.
+-- The end of both submissions, from the mailbox's length to the slot: the last five rows of the table of refusals.
 use mathlib.Core.Bool.{not}
 use mathlib.Core.List.{List}
 use Prim.Native.Nat.{ℕ, _*_}

@@ -46,6 +46,7 @@ collectOn w k out Free = collectRefused w out cause.NoRequest
 collectOn w k out (Running q m) = collectRefused w out cause.StillRunning
 collectOn w k out (Finished q m) = collectFinished w k out q
 
+-- lent memory and state are tested first, as by every call but reset
 unfoldable pub collectOf : World → ℕ → List ℕ → Collected
 collectOf w k out =
     pick (badLent w) (collectRefused w out cause.BadLength)

@@ -62,6 +62,7 @@ badSystem o op.ResizeCq = not o
 badSystem o op.QueryQp = not o
 badSystem o (op.ModifyQp e) = not o
 
+-- CLOSE_HCA among the ops
 abbrev pub isClose : Op → Bool
 isClose op.InitHca = false
 isClose op.CloseHca = true

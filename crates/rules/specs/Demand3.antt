@@ -1,13 +1,16 @@
 -- DEMAND 3.
 --
--- What is claimed, and of what: of the rules in this crate (Commands, Engines, Steps, Collections, Resets), which the contracts of
--- the model's operations cite. After every initialisation and every list of calls, each of which gets the state and the memory
+-- What is claimed, and of what: of the rules in this crate (Commands, Engines, Steps, Collections, Resets), to which the model's
+-- operations are to be proved equal. After every initialisation and every list of calls, each of which gets the state and the memory
 -- that the call before left, up to the next initialisation or reset that answers 0: the finished requests, given one at a time
 -- and whole to the plain book (Book) in the order of acceptance, are all accepted; every record that nobody is writing, every
 -- answer, and every refusal because of a record's state is the book's. One statement about the whole list. The proof is in
 -- Serial; it assumes nothing.
 --
--- What is not claimed: that a request is ever finished, or which calls are accepted: that is what the rules say, call by call.
+-- What is not claimed: that a request is ever finished, or which calls are accepted: that is what the rules say, call by call. Nor
+-- is anything claimed of calls between which the caller changes what it lends: such a call is one of another list. A reset in a
+-- list answers 0 and ends it, since the row and the room are those that the initialisation tested; a refused call on other memory
+-- changes nothing (`Refusals` in Frames).
 use mathlib.Core.Path.{_≡_}
 use mathlib.Core.Bool.{true}
 use mathlib.Core.List.{List, [], _∷_, _++_}
@@ -26,7 +29,8 @@ use Rattle.rules.specs.Commands.{submitCommand}
 use Rattle.rules.specs.Book.{Book, Fed, onRecord, closeHca, nop, numberOf, replyOf, afterOf}
 use Rattle.rules.specs.Calls.{Call, Note, nothing, refused, accepted, finished, emptied, answerOf, worldAfter, noteOf, stops, initialises}
 
--- ---- The journal: the requests of a list of calls in the order of submission, from the calls and their answers alone.
+-- ---- The journal: the requests of a list of calls in the order of submission, from the calls and their answers alone, and the
+-- counts of the initialisation, which no call of the list changes (`Counts` in Frames).
 
 pub data Entry : Type 0 where
   -- refused because of its record's state, with this number
@@ -56,7 +60,8 @@ pub record Run : Type 0 where
   pub world : World
   pub journal : List Entry
 
--- "each .. given the state" that the call before left; it stops before an initialisation or a reset that answers 0
+-- each call gets the state, row, store and room that the call before left; the list ends before an initialisation or a reset that
+-- answers 0
 abbrev pub runFrom : World → List Entry → List Call → Run
 runFrom w J [] = record { world = w; journal = J }
 runFrom w J (c ∷ cs) =

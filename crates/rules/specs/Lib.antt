@@ -1,6 +1,6 @@
 -- The rules of document 01 as definitions on values and lists, and the demands as theorems about them.
 --
--- The rules, in the order of document 01; each definition stands under the sentence that it states.
+-- The rules: the numbers returned, what is lent, and the calls; each definition stands under the sentence that it states.
 pub mod Numbers
 pub mod World
 pub mod Admission

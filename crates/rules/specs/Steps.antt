@@ -36,13 +36,15 @@ burstAt w q m = recordAt (w .hca .logs) (touched q) + offsetOf q m
 unfoldable pub storeMoved : World → ℕ → Request → ℕ → List ℕ
 storeMoved w k q m = pick (writesOf q) (writeAt q (frontOf k q (w .room)) (burstAt w q m) (offsetOf q m) (w .store)) (w .store)
 
--- a read copies it to the slot's part of the room
+-- "A read burst is copied to the offset in that part which it has in the record."
 unfoldable pub roomMoved : World → ℕ → Request → ℕ → List ℕ
 roomMoved w k q m = pick (writesOf q) (w .room) (copyAt (burstAt w q m) (w .store) (k * slotRoom + offsetOf q m) (w .room))
 
+-- "The last one finishes the request."
 unfoldable pub slotMoved : World → ℕ → Slot
 slotMoved w k = advanced (getD (w .row) k (slot Free))
 
+-- "Exactly that burst of the record is changed or copied, nothing else in the store."; "No other room byte changes"
 unfoldable pub moved : World → ℕ → Request → ℕ → World
 moved w k q m = world (w .hca) (set (w .row) k (slotMoved w k)) (storeMoved w k q m) (roomMoved w k q m)
 
@@ -52,6 +54,7 @@ stepOn w k Free = stepRefused w cause.NoRequest
 stepOn w k (Running q m) = stepped (step.Left (leftOf (slotMoved w k))) (moved w k q m)
 stepOn w k (Finished q m) = stepRefused w cause.NoRequest
 
+-- lent memory and state are tested first, as by every call but reset
 unfoldable pub stepOf : World → ℕ → Stepped
 stepOf w k =
     pick (badLent w) (stepRefused w cause.BadLength)

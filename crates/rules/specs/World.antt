@@ -56,6 +56,7 @@ badRow w = either (not (eqb (length (w .row)) 8)) (ltb (length (w .room)) roomSi
 unfoldable pub badStore : World → Bool
 badStore w = both (w .hca .«open») (not (eqb (length (w .store)) (w .hca .«store_len»)))
 
+-- what every call but reset tests of the memory lent
 unfoldable pub badLent : World → Bool
 badLent w = either (badRow w) (badStore w)
 
