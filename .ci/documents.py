@@ -1,5 +1,5 @@
-"""Fails where the documents and the tree disagree: a crate that crates.txt or README.md leaves out,
-or a name that docs/CLAIMS.md gives and the crate it gives it for does not have."""
+"""Fails where the documents and the tree disagree: a crate that crates.txt, README.md or docs/CLAIMS.md
+leaves out, or a name that docs/CLAIMS.md gives and the crate it gives it for does not have."""
 import os
 import re
 import sys
@@ -32,8 +32,11 @@ def main():
     wrong += [f"README.md does not name the crate {c}" for c in crates if f"`{c}`" not in readme]
     claims = open("docs/CLAIMS.md", encoding="utf8").read()
     texts = {c: text_of(c) for c in crates}
-    # A claim names what states it as `crate: name, name`.
-    for crate, names in re.findall(r"`(\w+): ([^`]+)`", claims):
+    # A claim names what states it as `crate: name, name`; a test, as the program `crate`.
+    stated = re.findall(r"`(\w+): ([^`]+)`", claims)
+    named = [crate for crate, _ in stated] + re.findall(r"the program `(\w+)`", claims)
+    wrong += [f"docs/CLAIMS.md names nothing of the crate {c}" for c in crates if c not in named]
+    for crate, names in stated:
         if crate not in texts:
             wrong.append(f"docs/CLAIMS.md names the crate {crate}, which is not listed")
             continue
