@@ -26,6 +26,7 @@ use Rattle.tables.specs.Mailboxes.{needOf}
 use Rattle.burst_table.specs.Bursts.{burstsOf}
 use Rattle.effects.specs.Permission.{permissionOf}
 use Rattle.effects.specs.Content.{contentHolds}
+use Rattle.answers.specs.Answers.{answerOf}
 use Rattle.answers.specs.Laws.{answer-agrees}
 use Rattle.bursts.specs.Bursts.{Fit}
 use Rattle.bursts.specs.Copies.{copies, length-copies, copies-in}
@@ -108,16 +109,21 @@ reader-size (request.Engine (engine.ReadNext n)) e = refl
 reader-size (request.Engine (engine.ReadAll n)) e = refl
 reader-size (request.Engine (engine.Write p n psn s)) e = absurd (true≢false e)
 
+-- once all bursts of a read are copied, the slot's part of the room answers as the record does
+pub read-answers : (q : Request) (c buf : List ℕ) → writesOf q ≡ false → length c ≡ recordSize (touched q) → length buf ≡ 256
+    → answerOf q (copies (burstsOf q) c buf) ≡ answerOf q c
+read-answers q c buf rd e f =
+    let h : Fit (length c) (burstsOf q) = rw e (bursts-fit q) in
+    let k : Fit (length buf) (burstsOf q) = rw f (bursts-room q) in
+    answer-agrees q (copies (burstsOf q) c buf) c (omega (arith, length-copies (burstsOf q) c buf h k)) (omega (arith, e, reader-size q rd))
+    (copies-in (burstsOf q) c buf h k)
+
 -- ---- all bursts are still to move
 
 begun : (q : Request) (mail buf c : List ℕ) → needOf q ≤ length mail → length c ≡ recordSize (touched q) → length buf ≡ 256
     → (b : Bool) → writesOf q ≡ b → MidOf b q mail (left (burstsOf q) buf) c c
 begun q mail buf c n e f true wr = writes-whole q mail c e ∙ sym (whole-bytes q mail c n e)
-begun q mail buf c n e f false rd =
-    let h : Fit (length c) (burstsOf q) = rw e (bursts-fit q) in
-    let k : Fit (length buf) (burstsOf q) = rw f (bursts-room q) in
-    answer-agrees q (copies (burstsOf q) c buf) c (omega (arith, length-copies (burstsOf q) c buf h k)) (omega (arith, e, reader-size q rd))
-    (copies-in (burstsOf q) c buf h k)
+begun q mail buf c n e f false rd = read-answers q c buf rd e f
 
 -- ---- the admission
 
