@@ -38,6 +38,12 @@ record-inside g r h =
     let k : numberOf r < countOf g (kindOf r) = ltb-true (numberOf r) (countOf g (kindOf r)) h in
     omega (arith, table-in (startOf g (kindOf r)) (sizeOf (kindOf r)) (numberOf r) (countOf g (kindOf r)) k, table-end g (kindOf r))
 
+pub size-least : (r : Record) → 64 ≤ recordSize r
+size-least (record′.Qp n) = omega arith
+size-least (record′.Cq n) = omega arith
+size-least (record′.Eq n) = omega arith
+size-least (record′.Mpt n) = omega arith
+
 pub record-small : (g : Logs) (r : Record) → rangesHold g ≡ true → isRecord g r ≡ true → recordAt g r + recordSize r ≤ 9439232
 record-small g r h k = omega (arith, record-inside g r k, in-use-small g h)
 

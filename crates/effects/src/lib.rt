@@ -1,5 +1,5 @@
 // What a request asks of its record and its mailbox. Every function here is a leaf: its callers have tested the
-// lengths, and pass a record or a part of one that starts inside the store.
+// lengths.
 use context::CqNumber;
 use edges::Edge;
 use edges::Move;
@@ -9,12 +9,15 @@ use requests::Engine;
 use requests::Owned;
 use requests::Request;
 ghost use mathlib.Core.Path.{_≡_};
-ghost use Prim.Native.Nat.{_≤_};
+ghost use Prim.Native.Nat.{_+_, _≤_};
 ghost use lib.Dec.{eqb};
 ghost use lib.ListN.{length};
+ghost use Rattle.words.specs.Parts.{part};
 ghost use Rattle.words.specs.Words.{be32};
+ghost use Rattle.context.specs.Layout.{recordSize};
 ghost use Rattle.edges.specs.Edges.{judgeOf};
 ghost use Rattle.edges.specs.States.{isService};
+ghost use Rattle.tables.specs.Records.{recordOf};
 ghost use Rattle.tables.specs.Mailboxes.{storedOf, edgeNeed, commandNeed, needOf};
 ghost use Rattle.effects.specs.Fields.{stateOf, serviceOf, isHardware};
 ghost use Rattle.effects.specs.Permission.{softwareOnly, hardwareOnly, commandPermits, enginePermits, permissionOf};
@@ -104,6 +107,23 @@ pub fn permission(request: Request, rec: &[u8]) -> Verdict
         Request::Command(command) => command_permitted(command, rec),
         Request::Engine(engine) => engine_permitted(engine, rec),
     }
+}
+
+// The bytes of a request's record.
+fn size_of(request: Request) -> usize
+    ensures { λ r. ⌜ r ≡ recordSize (recordOf request) ⌝ }
+{
+    context::record_size(tables::record_of(request))
+}
+
+// Whether the record that starts at `at` of the store permits a request. The record-sized part of
+// the store is passed on to `permission`, which judges it.
+pub fn permission_at(request: Request, store: &[u8], at: usize) -> Verdict
+    requires { ⌜ at + recordSize (recordOf request) ≤ length (now store) ⌝ }
+    ensures { λ r. ⌜ r ≡ permissionOf request (part at (recordSize (recordOf request)) (now (store .entry))) ⌝ }
+{
+    let end = at + size_of(request);
+    permission(request, &store[at..end])
 }
 
 fn cq_content(n: CqNumber, mailbox: &[u8]) -> bool
