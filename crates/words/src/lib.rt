@@ -35,15 +35,27 @@ pub fn read_be32(s: &[u8], at: usize) -> u32
     join(s[at + 3], s[at + 2], s[at + 1], s[at])
 }
 
+// Writes four bytes from `at`.
+fn write_four(s: &mut [u8], at: usize, b0: u8, b1: u8, b2: u8, b3: u8)
+    requires { ⌜ at + 4 ≤ length (now s) ⌝ }
+    ensures { λ _. ⌜ now (s .exit) ≡ splice at (b0 ∷ b1 ∷ b2 ∷ b3 ∷ []) (now (s .entry)) ⌝ }
+{
+    s[at] = b0;
+    s[at + 1] = b1;
+    s[at + 2] = b2;
+    s[at + 3] = b3;
+}
+
 // Writes a little-endian word at `at`.
 pub fn write_le32(s: &mut [u8], at: usize, v: u32)
     requires { ⌜ at + 4 ≤ length (now s) ⌝ }
     ensures { λ _. ⌜ now (s .exit) ≡ splice at (leBytes 4 v) (now (s .entry)) ⌝ }
 {
-    s[at] = (v % 0x100) as u8;
-    s[at + 1] = (v / 0x100 % 0x100) as u8;
-    s[at + 2] = (v / 0x1_0000 % 0x100) as u8;
-    s[at + 3] = (v / 0x100_0000 % 0x100) as u8;
+    let b0 = (v % 0x100) as u8;
+    let b1 = (v / 0x100 % 0x100) as u8;
+    let b2 = (v / 0x1_0000 % 0x100) as u8;
+    let b3 = (v / 0x100_0000 % 0x100) as u8;
+    write_four(s, at, b0, b1, b2, b3);
 }
 
 // Writes a big-endian word at `at`.
@@ -51,10 +63,11 @@ pub fn write_be32(s: &mut [u8], at: usize, v: u32)
     requires { ⌜ at + 4 ≤ length (now s) ⌝ }
     ensures { λ _. ⌜ now (s .exit) ≡ splice at (beBytes 4 v) (now (s .entry)) ⌝ }
 {
-    s[at] = (v / 0x100_0000 % 0x100) as u8;
-    s[at + 1] = (v / 0x1_0000 % 0x100) as u8;
-    s[at + 2] = (v / 0x100 % 0x100) as u8;
-    s[at + 3] = (v % 0x100) as u8;
+    let b0 = (v / 0x100_0000 % 0x100) as u8;
+    let b1 = (v / 0x1_0000 % 0x100) as u8;
+    let b2 = (v / 0x100 % 0x100) as u8;
+    let b3 = (v % 0x100) as u8;
+    write_four(s, at, b0, b1, b2, b3);
 }
 
 // Copies all of `from` to `at` of `to`.

@@ -1,64 +1,30 @@
 -- `words::write_le32` meets its contract.
-use native.Mathlib.Omega.{arith}
-use lib.ListN.{length-set}
-use Rattle.words.specs.Leaves.{leBytes-four, splice-four}
+use Rattle.words.specs.Leaves.{leBytes-four}
 use borrow.Author.Needs.{needs}
 use Rattle.words.proofs.write_le32.Statement.{statement}
 use Rattle.words.proofs.write_le32.Tie as tie
 
-cast-s : tie.Need-cast-s
-cast-s c = search needs
+cast-b0 : tie.Need-cast-b0
+cast-b0 c = search needs
 
-slice-write-s : tie.Need-slice-write-s
-slice-write-s c = search needs
+cast-b1 : tie.Need-cast-b1
+cast-b1 c = search needs
 
-cast-s-2 : tie.Need-cast-s-2
-cast-s-2 c = search needs
+cast-b2 : tie.Need-cast-b2
+cast-b2 c = search needs
 
-add-s : tie.Need-add-s
-add-s c = search needs
+cast-b3 : tie.Need-cast-b3
+cast-b3 c = search needs
 
-slice-write-s-2 : tie.Need-slice-write-s-2
-slice-write-s-2 c = simp length-set (omega arith)
-
-cast-s-3 : tie.Need-cast-s-3
-cast-s-3 c = search needs
-
-add-s-2 : tie.Need-add-s-2
-add-s-2 c = search needs
-
-slice-write-s-3 : tie.Need-slice-write-s-3
-slice-write-s-3 c = simp length-set (omega arith)
-
-cast-s-4 : tie.Need-cast-s-4
-cast-s-4 c = search needs
-
-add-s-3 : tie.Need-add-s-3
-add-s-3 c = search needs
-
-slice-write-s-4 : tie.Need-slice-write-s-4
-slice-write-s-4 c = simp length-set (omega arith)
+write-four-requires : tie.Need-write-four-requires
+write-four-requires c κs = search needs
 
 same-length : tie.Need-same-length
 same-length c = search needs
 
 returns : tie.Need-returns
-returns c = rw leBytes-four (splice-four _ _ _ _ _ _ (search needs))
+returns c = rw leBytes-four (search needs)
 
 pub write-le32-spec : {M : Type 1} → statement M
 write-le32-spec =
-    tie.close
-    (tie.spec
-    cast-s
-    slice-write-s
-    cast-s-2
-    add-s
-    slice-write-s-2
-    cast-s-3
-    add-s-2
-    slice-write-s-3
-    cast-s-4
-    add-s-3
-    slice-write-s-4
-    same-length
-    returns)
+    tie.close (tie.spec cast-b0 cast-b1 cast-b2 cast-b3 write-four-requires same-length returns)
