@@ -2,8 +2,7 @@
 use mathlib.Core.Path.{_≡_, refl, sym, _∙_, ap}
 use mathlib.Core.List.{List, [], _∷_}
 use mathlib.Core.Logic.{inl, inr}
-use Prim.Native.Nat.{ℕ, zero, suc, _+_, _*_, _/_, _%_, _≤_, _<_}
-use native.Mathlib.Decide.{decLt}
+use Prim.Native.Nat.{ℕ, suc, _+_, _*_, _/_, _%_, _≤_, _<_}
 use native.Mathlib.Omega.{arith}
 use lib.ListN.{length, getD}
 use Rattle.words.specs.Parts.{part-agrees, part, length-part, part-part}
@@ -15,9 +14,9 @@ use Rattle.requests.specs.declared.Engine.{Engine}
 use Rattle.requests.specs.declared.Engine.the-variants as engine
 use Rattle.requests.specs.declared.Request.{Request}
 use Rattle.requests.specs.declared.Request.the-variants as request
-use Rattle.burst_table.specs.Bursts.{burstSize, burstsFrom, commandBursts, engineBursts, burstsOf}
+use Rattle.burst_table.specs.Bursts.{burstsFrom, commandBursts, engineBursts, burstsOf}
 use Rattle.effects.specs.Fields.{stateOf}
-use Rattle.burst_table.specs.Touched.{Touched}
+use Rattle.burst_table.specs.Touched.{Touched, all-touched}
 use Rattle.answers.specs.Answers.{stateAnswer, nextAnswer, wholeAnswer, commandAnswer, engineAnswer, answerOf, commandAnswerSize, engineAnswerSize, answerSize}
 
 length-command : (c : Command) (p : List ℕ) → 256 ≤ length p → length (commandAnswer c p) ≡ commandAnswerSize c
@@ -61,22 +60,13 @@ psn-bytes at p a h =
 abbrev pub AgreeOn : List ℕ → List ℕ → List ℕ → Type 0
 AgreeOn js p c = (i : ℕ) → Touched i js → getD p i 0 ≡ getD c i 0
 
--- every byte of the n bursts from the s-th on lies in one of them
-in-bursts : (s n i : ℕ) → burstSize * s ≤ i → i < burstSize * (s + n) → Touched i (burstsFrom s n)
-in-bursts s zero i h k = absurd (omega arith)
-in-bursts s (suc n) i h k = go (decLt i (burstSize * s + burstSize)) (λ y. in-bursts (suc s) n i y (omega arith))
-  where
-    go : Dec (i < burstSize * s + burstSize) → (burstSize * suc s ≤ i → Touched i (burstsFrom (suc s) n)) → Touched i (burstsFrom s (suc n))
-    go (yes y) f = inl (h, y)
-    go (no y) f = inr (f (omega arith))
-
 state-agrees : (js p c : List ℕ) → AgreeOn (0 ∷ js) p c → stateOf p ≡ stateOf c
 unfolding stateOf
 state-agrees js p c a = rw (a 0 (inl (omega arith, omega arith)))
 
 whole-agrees : (p c : List ℕ) → 256 ≤ length p → 256 ≤ length c → AgreeOn (burstsFrom 0 16) p c → wholeAnswer p ≡ wholeAnswer c
 unfolding wholeAnswer
-whole-agrees p c h k a = part-agrees 0 256 p c h k (λ i j. a (0 + i) (in-bursts 0 16 (0 + i) (omega arith) (omega arith)))
+whole-agrees p c h k a = part-agrees 0 256 p c h k (λ i j. a (0 + i) (all-touched 16 (0 + i) (omega arith)))
 
 next-agrees : (p c : List ℕ) → 256 ≤ length p → 256 ≤ length c → AgreeOn (0 ∷ 6 ∷ []) p c → nextAnswer p ≡ nextAnswer c
 unfolding nextAnswer

@@ -8,13 +8,11 @@ use Prim.Native.Nat.{ℕ, _+_, _/_, _≤_, _<_}
 use native.Mathlib.Omega.{arith}
 use borrow.Author.Tests.{ne-eqb}
 use lib.ListN.{length, getD}
-use Rattle.words.specs.Maps.{mapFrom, getD-mapFrom}
+use Rattle.words.specs.Maps.{mapFrom}
 use Rattle.context.specs.Layout.{recordSize}
 use Rattle.edges.specs.States.{stateCode}
 use Rattle.edges.specs.Edges.{toOf}
 use Rattle.edges.specs.declared.State.{State}
-use Rattle.edges.specs.declared.Edge.{Edge}
-use Rattle.edges.specs.declared.Edge.the-variants.{ResetToInit, InitToInit, InitToRtr, RtrToRts, RtsToRts, SqeToRts, RtsToSqd, SqdToSqd, SqdToRts, ToErr, ToReset}
 use Rattle.requests.specs.declared.Psn.{Psn}
 use Rattle.requests.specs.declared.Psn.the-variants.{NextSend, LastAcked, Expected}
 use Rattle.requests.specs.declared.Owned.{Owned}
@@ -25,10 +23,11 @@ use Rattle.requests.specs.declared.Request.{Request}
 use Rattle.requests.specs.declared.Request.the-variants as request
 use Rattle.tables.specs.Records.{ownedRecord, recordOf, writesOf}
 use Rattle.burst_table.specs.Bursts.{psnPlace, burstsFrom, psnBursts, burstsOf}
-use Rattle.burst_table.specs.Touched.{Inside, Touched}
+use Rattle.burst_table.specs.Touched.{Inside, Touched, all-touched}
 use Rattle.bursts.specs.Bursts.{burst, after, burst-in, after-whole}
-use Rattle.byte_rule.specs.Bytes.{withState, takenByte, edgeByte, psnByte, writeByte, byteOf}
-use Rattle.bursts.specs.Table.{all-touched, bursts-fit, bursts-once}
+use Rattle.byte_rule.specs.Bytes.{withState, psnByte, writeByte, byteOf}
+use Rattle.byte_rule.specs.States.{edge-state, write-state}
+use Rattle.bursts.specs.Table.{bursts-fit, bursts-once}
 
 -- "Reads ..: Nothing changes."
 pub reader-keeps : (q : Request) (mail : List ℕ) (i b : ℕ) → writesOf q ≡ false → byteOf q mail i b ≡ b
@@ -103,27 +102,7 @@ Sets (request.Engine (engine.ReadNext n)) s = ⊥
 Sets (request.Engine (engine.ReadAll n)) s = ⊥
 Sets (request.Engine (engine.Write p n psn t)) s = t ≡ s
 
--- byte 0 has the state in its top half
-with-state : (s : State) (b : ℕ) → withState s 0 b / 16 ≡ stateCode s
-unfolding withState
-with-state s b = omega arith
-
-edge-state : (e : Edge) (mail : List ℕ) (b : ℕ) → edgeByte e mail 0 b / 16 ≡ stateCode (toOf e)
-unfolding edgeByte
-edge-state ResetToInit mail b = with-state (toOf ResetToInit) (takenByte ResetToInit mail 0 b)
-edge-state InitToInit mail b = with-state (toOf InitToInit) (takenByte InitToInit mail 0 b)
-edge-state InitToRtr mail b = with-state (toOf InitToRtr) (takenByte InitToRtr mail 0 b)
-edge-state RtrToRts mail b = with-state (toOf RtrToRts) (takenByte RtrToRts mail 0 b)
-edge-state RtsToRts mail b = with-state (toOf RtsToRts) (takenByte RtsToRts mail 0 b)
-edge-state SqeToRts mail b = with-state (toOf SqeToRts) (takenByte SqeToRts mail 0 b)
-edge-state RtsToSqd mail b = with-state (toOf RtsToSqd) (takenByte RtsToSqd mail 0 b)
-edge-state SqdToSqd mail b = with-state (toOf SqdToSqd) (takenByte SqdToSqd mail 0 b)
-edge-state SqdToRts mail b = with-state (toOf SqdToRts) (takenByte SqdToRts mail 0 b)
-edge-state ToErr mail b = with-state (toOf ToErr) (takenByte ToErr mail 0 b)
-edge-state ToReset mail b = refl
-
 pub state-after : (q : Request) (s : State) → Sets q s → (mail : List ℕ) (b : ℕ) → byteOf q mail 0 b / 16 ≡ stateCode s
-unfolding writeByte
 state-after (request.Command (command.Sw2Hw o)) s x mail b = absurd x
 state-after (request.Command (command.Hw2Sw o)) s x mail b = absurd x
 state-after (request.Command (command.ResizeCq n)) s x mail b = absurd x
@@ -132,13 +111,9 @@ state-after (request.Command (command.ModifyQp e n)) s x mail b = edge-state e m
 state-after (request.Engine (engine.ReadState n)) s x mail b = absurd x
 state-after (request.Engine (engine.ReadNext n)) s x mail b = absurd x
 state-after (request.Engine (engine.ReadAll n)) s x mail b = absurd x
-state-after (request.Engine (engine.Write p n psn t)) s x mail b = with-state t (psnByte (psnPlace p) psn 0 b) ∙ ap stateCode x
+state-after (request.Engine (engine.Write p n psn t)) s x mail b = write-state p psn t b ∙ ap stateCode x
 
--- the record's state after the whole effect, and already after the first burst
-pub state-whole : (q : Request) (s : State) → Sets q s → (mail c : List ℕ) → 0 < length c
-    → getD (mapFrom (byteOf q mail) 0 c) 0 0 / 16 ≡ stateCode s
-state-whole q s x mail c h = ap (λ (b : ℕ). b / 16) (getD-mapFrom (byteOf q mail) 0 c 0 h) ∙ state-after q s x mail (getD c 0 0)
-
+-- the record's state is set by the first burst
 pub state-first : (q : Request) (s : State) → Sets q s → (mail c : List ℕ) → 16 ≤ length c
     → getD (burst (byteOf q mail) 0 c) 0 0 / 16 ≡ stateCode s
 state-first q s x mail c h =

@@ -3,9 +3,7 @@
 use mathlib.Core.Path.{_≡_, refl, sym}
 use mathlib.Core.Bool.{false, false≢true}
 use mathlib.Core.List.{List, [], _∷_}
-use mathlib.Core.Logic.{inl, inr}
 use Prim.Native.Nat.{ℕ, zero, suc, _+_, _*_, _≤_, _<_}
-use native.Mathlib.Decide.{decLt}
 use native.Mathlib.Omega.{arith}
 use lib.Dec.{lit≤}
 use lib.ListN.{length, getD, drop}
@@ -25,7 +23,6 @@ use Rattle.tables.specs.Records.{ownedRecord, recordOf, writesOf}
 use Rattle.tables.specs.Mailboxes.{storedOf, edgeNeed, needOf}
 use Rattle.tables.specs.Sizes.{owned-size}
 use Rattle.burst_table.specs.Bursts.{burstsFrom, psnBursts, burstsOf, totalOf, offsetOf}
-use Rattle.burst_table.specs.Touched.{Touched}
 use Rattle.bursts.specs.Bursts.{Fit, Fresh, Distinct, fit-at}
 
 -- Bursts in a row: those of a record that is moved whole.
@@ -40,18 +37,6 @@ row-fresh j s (suc n) h = ((λ e. omega (arith, e)), row-fresh j (suc s) n (omeg
 pub row-once : (s n : ℕ) → Distinct (burstsFrom s n)
 row-once s zero = tt
 row-once s (suc n) = (row-fresh s (suc s) n (omega arith), row-once (suc s) n)
-
-pub row-touched : (s n i : ℕ) → 16 * s ≤ i → i < 16 * (s + n) → Touched i (burstsFrom s n)
-row-touched s zero i h k = absurd (omega arith)
-row-touched s (suc n) i h k = go (decLt i (16 * s + 16)) (row-touched (suc s) n i)
-  where
-    go : Dec (i < 16 * s + 16) → (16 * suc s ≤ i → i < 16 * (suc s + n) → Touched i (burstsFrom (suc s) n)) → Touched i (burstsFrom s (suc n))
-    go (yes y) on = inl (h, y)
-    go (no y) on = inr (on (omega arith) (omega arith))
-
--- every byte of a record of n bursts is touched by all of them
-pub all-touched : (n i : ℕ) → i < 16 * n → Touched i (burstsFrom 0 n)
-all-touched n i h = row-touched 0 n i (omega arith) (omega arith)
 
 -- The state's burst and the PSN's.
 psn-fit : (p : Psn) → Fit 256 (psnBursts p)

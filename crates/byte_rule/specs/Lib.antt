@@ -2,3 +2,4 @@
 pub mod Taken
 pub mod Bytes
 pub mod Needed
+pub mod States

@@ -1,6 +1,5 @@
 -- The state that a request leaves in a queue pair's record.
-use mathlib.Core.Path.{_≡_, refl, sym, _∙_, ap}
-use mathlib.Core.Bool.{false}
+use mathlib.Core.Path.{_≡_, sym, _∙_, ap}
 use mathlib.Core.List.{List}
 use Prim.Native.Nat.{ℕ, _/_, _≤_}
 use native.Mathlib.Omega.{arith}
@@ -10,10 +9,6 @@ use Rattle.context.specs.Layout.{sizeOf, kindOf}
 use Rattle.context.specs.declared.Kind.the-variants as kind
 use Rattle.edges.specs.States.{stateCode}
 use Rattle.edges.specs.Edges.{toOf}
-use Rattle.edges.specs.declared.State.{State}
-use Rattle.edges.specs.declared.Edge.{Edge}
-use Rattle.edges.specs.declared.Edge.the-variants.{ResetToInit, InitToInit, InitToRtr, RtrToRts, RtsToRts, SqeToRts, RtsToSqd, SqdToSqd, SqdToRts, ToErr, ToReset}
-use Rattle.requests.specs.declared.Psn.{Psn}
 use Rattle.requests.specs.declared.Owned.{Owned}
 use Rattle.requests.specs.declared.Owned.the-variants as owned
 use Rattle.requests.specs.declared.Command.{Command}
@@ -24,9 +19,8 @@ use Rattle.requests.specs.declared.Request.{Request}
 use Rattle.requests.specs.declared.Request.the-variants as request
 use Rattle.tables.specs.Records.{ownedRecord, recordOf}
 use Rattle.effects.specs.Fields.{stateOf}
-use Rattle.burst_table.specs.Bursts.{psnPlace}
-use Rattle.byte_rule.specs.Taken.{zeroes}
-use Rattle.byte_rule.specs.Bytes.{withState, takenByte, edgeByte, psnByte, writeByte, byteOf}
+use Rattle.byte_rule.specs.Bytes.{edgeByte, writeByte, byteOf}
+use Rattle.byte_rule.specs.States.{edge-state, write-state}
 use Rattle.tables.specs.Sizes.{owned-size}
 
 -- the state code after a request on a queue pair, from the code before: an edge and an engine write set it, a read leaves it;
@@ -47,33 +41,6 @@ engineTarget (engine.Write p n psn s) code = stateCode s
 abbrev pub targetOf : Request → ℕ → ℕ
 targetOf (request.Command c) code = commandTarget c code
 targetOf (request.Engine e) code = engineTarget e code
-
-with-state : (s : State) (b : ℕ) → withState s 0 b / 16 ≡ stateCode s
-unfolding withState
-with-state s b = omega arith
-
-not-zeroed : (e : Edge) (image : List ℕ) (b : ℕ) → zeroes e ≡ false → edgeByte e image 0 b / 16 ≡ stateCode (toOf e)
-unfolding edgeByte
-not-zeroed e image b z = rw z (with-state (toOf e) (takenByte e image 0 b))
-
--- RESET is code 0, so that a record of which all bytes are zero is in it
-edge-state : (e : Edge) (image : List ℕ) (b : ℕ) → edgeByte e image 0 b / 16 ≡ stateCode (toOf e)
-unfolding edgeByte
-edge-state ResetToInit image b = not-zeroed ResetToInit image b refl
-edge-state InitToInit image b = not-zeroed InitToInit image b refl
-edge-state InitToRtr image b = not-zeroed InitToRtr image b refl
-edge-state RtrToRts image b = not-zeroed RtrToRts image b refl
-edge-state RtsToRts image b = not-zeroed RtsToRts image b refl
-edge-state SqeToRts image b = not-zeroed SqeToRts image b refl
-edge-state RtsToSqd image b = not-zeroed RtsToSqd image b refl
-edge-state SqdToSqd image b = not-zeroed SqdToSqd image b refl
-edge-state SqdToRts image b = not-zeroed SqdToRts image b refl
-edge-state ToErr image b = not-zeroed ToErr image b refl
-edge-state ToReset image b = refl
-
-write-state : (p : Psn) (psn : ℕ) (s : State) (b : ℕ) → writeByte p psn s 0 b / 16 ≡ stateCode s
-unfolding writeByte
-write-state p psn s b = with-state s (psnByte (psnPlace p) psn 0 b)
 
 -- a record with an owner is no queue pair's
 owned-other : (o : Owned) → kindOf (ownedRecord o) ≡ kind.Qp → ⊥
