@@ -7,8 +7,8 @@ use Prim.Native.Nat.{ℕ, zero, suc, _+_, _*_, _-_, _≤_, _<_}
 use native.Mathlib.Nat.{zero-add}
 use native.Mathlib.Decide.{decLt, decLe}
 use native.Mathlib.Omega.{arith}
-use lib.ListN.{length, getD, drop}
-use lib.Seq.{ext-getD, drop-cons}
+use lib.ListN.{length, getD}
+use lib.Seq.{ext-getD}
 use Rattle.words.specs.Parts.{part, splice, length-part, getD-part, length-splice, splice-below, splice-in, splice-above}
 use Rattle.words.specs.Maps.{mapFrom, length-mapFrom, getD-mapFrom}
 use Rattle.burst_table.specs.Touched.{Inside, Touched}
@@ -129,11 +129,6 @@ after-whole f js c h d k =
     each : (i : ℕ) → i < length c → Dec (Touched i js) → getD (after f js c) i 0 ≡ getD (mapFrom f 0 c) i 0
     each i l (yes t) = after-in f js c h d i t ∙ sym (whole i l)
     each i l (no t) = after-out f js c h i t ∙ sym (whole i l ∙ k i (getD c i 0) l t)
-
--- burst m is the next one after m bursts: what the bursts from the m-th on leave, by the first of them
-pub after-next : (f : ℕ → ℕ → ℕ) (js : List ℕ) (m : ℕ) (c : List ℕ) → m < length js
-    → after f (drop m js) c ≡ after f (drop (suc m) js) (burst f (getD js m 0) c)
-after-next f js m c h = ap (λ (ks : List ℕ). after f ks c) (drop-cons js m 0 h)
 
 -- what holds of every burst holds of burst m
 pub fit-at : (n : ℕ) (js : List ℕ) (m : ℕ) → Fit n js → m < length js → 16 * getD js m 0 + 16 ≤ n

@@ -1,7 +1,6 @@
--- What the byte rule leaves of a record: a reader leaves all of it, a writer all outside its bursts, and a write that sets a
--- state leaves that state. So the bursts of a request are its whole effect (`writes-whole`).
-use mathlib.Core.Path.{_≡_, refl, sym, _∙_, ap}
-use mathlib.Core.Bool.{false, false≢true}
+-- What the byte rule leaves of a record: all outside the request's bursts, and after a write that sets a state that state. So
+-- the bursts of a request are its whole effect (`writes-whole`).
+use mathlib.Core.Path.{_≡_, refl, _∙_, ap}
 use mathlib.Core.List.{List}
 use mathlib.Core.Logic.{inl, inr}
 use Prim.Native.Nat.{ℕ, _+_, _/_, _≤_, _<_}
@@ -21,25 +20,13 @@ use Rattle.requests.specs.declared.Command.the-variants as command
 use Rattle.requests.specs.declared.Engine.the-variants as engine
 use Rattle.requests.specs.declared.Request.{Request}
 use Rattle.requests.specs.declared.Request.the-variants as request
-use Rattle.tables.specs.Records.{ownedRecord, recordOf, writesOf}
+use Rattle.tables.specs.Records.{ownedRecord, recordOf}
 use Rattle.burst_table.specs.Bursts.{psnPlace, burstsFrom, psnBursts, burstsOf}
 use Rattle.burst_table.specs.Touched.{Inside, Touched, all-touched}
 use Rattle.bursts.specs.Bursts.{burst, after, burst-in, after-whole}
 use Rattle.byte_rule.specs.Bytes.{withState, psnByte, writeByte, byteOf}
 use Rattle.byte_rule.specs.States.{edge-state, write-state}
 use Rattle.bursts.specs.Table.{bursts-fit, bursts-once}
-
--- "Reads ..: Nothing changes."
-pub reader-keeps : (q : Request) (mail : List ℕ) (i b : ℕ) → writesOf q ≡ false → byteOf q mail i b ≡ b
-reader-keeps (request.Command (command.Sw2Hw o)) mail i b w = absurd (false≢true (sym w))
-reader-keeps (request.Command (command.Hw2Sw o)) mail i b w = absurd (false≢true (sym w))
-reader-keeps (request.Command (command.ResizeCq n)) mail i b w = absurd (false≢true (sym w))
-reader-keeps (request.Command (command.QueryQp n)) mail i b w = refl
-reader-keeps (request.Command (command.ModifyQp e n)) mail i b w = absurd (false≢true (sym w))
-reader-keeps (request.Engine (engine.ReadState n)) mail i b w = refl
-reader-keeps (request.Engine (engine.ReadNext n)) mail i b w = refl
-reader-keeps (request.Engine (engine.ReadAll n)) mail i b w = refl
-reader-keeps (request.Engine (engine.Write p n psn s)) mail i b w = absurd (false≢true (sym w))
 
 -- An engine write changes bytes of its two bursts alone.
 psn-kept : (at psn i b : ℕ) → ¬ (i ≡ at + 1) → ¬ (i ≡ at + 2) → ¬ (i ≡ at + 3) → psnByte at psn i b ≡ b

@@ -3,20 +3,16 @@
 use mathlib.Core.Path.{_≡_, sym, _∙_, ap}
 use mathlib.Core.List.{List}
 use mathlib.Core.Logic.{_⊎_, inl, inr}
-use Prim.Native.Nat.{ℕ, _+_, _*_, _≤_, _<_}
+use Prim.Native.Nat.{ℕ, _+_, _*_, _≤_}
 use native.Mathlib.Omega.{arith}
-use lib.ListN.{length, getD}
+use lib.ListN.{length}
 use Rattle.words.specs.Parts.{part, splice, length-part, length-splice, splice-apart, splice-inside, part-part}
-use Rattle.context.specs.Layout.{recordSize}
 use Rattle.requests.specs.declared.Request.{Request}
-use Rattle.tables.specs.Records.{recordOf}
-use Rattle.burst_table.specs.Bursts.{burstsOf, totalOf, offsetOf}
 use Rattle.byte_rule.specs.Bytes.{byteOf}
 use Rattle.bursts.specs.Moves.{writtenPart, writeAt, copyAt}
 use Rattle.bursts.specs.Leaves.{length-writtenPart}
 use Rattle.bursts.specs.Bursts.{burst}
 use Rattle.bursts.specs.Copies.{copy}
-use Rattle.bursts.specs.Table.{offset-burst, offset-small, offset-room}
 
 module _ (q : Request) (mail : List ℕ) (at first : ℕ) (store : List ℕ) (fit : at + 16 ≤ length store) where
   new-length : length (writtenPart q mail first (part at 16 store)) ≡ 16
@@ -83,20 +79,3 @@ copyAt-record r n b z j store room h k l m =
   where
     long : length (part (16 * j) 16 (part r n store)) ≡ 16
     long = length-part (16 * j) 16 (part r n store) (omega (arith, length-part r n store h))
-
--- The two by the burst table: burst m of request q, in its record at r.
-pub write-step : (q : Request) (mail : List ℕ) (m r : ℕ) (store : List ℕ) → m < totalOf q → r + recordSize (recordOf q) ≤ length store
-    → part r (recordSize (recordOf q)) (writeAt q mail (r + offsetOf q m) (offsetOf q m) store)
-    ≡ burst (byteOf q mail) (getD (burstsOf q) m 0) (part r (recordSize (recordOf q)) store)
-write-step q mail m r store h k =
-    ap (λ (o : ℕ). part r (recordSize (recordOf q)) (writeAt q mail (r + o) o store)) (offset-burst q m)
-    ∙ writeAt-record q mail r (recordSize (recordOf q)) (getD (burstsOf q) m 0) store k (omega (arith, offset-small q m h, offset-burst q m))
-
--- b is where the slot's part of the room starts
-pub copy-step : (q : Request) (m r b : ℕ) (store room : List ℕ) → m < totalOf q → r + recordSize (recordOf q) ≤ length store → b + 256 ≤ length room
-    → part b 256 (copyAt (r + offsetOf q m) store (b + offsetOf q m) room)
-    ≡ copy (getD (burstsOf q) m 0) (part r (recordSize (recordOf q)) store) (part b 256 room)
-copy-step q m r b store room h k l =
-    ap (λ (o : ℕ). part b 256 (copyAt (r + o) store (b + o) room)) (offset-burst q m)
-    ∙ copyAt-record r (recordSize (recordOf q)) b 256 (getD (burstsOf q) m 0) store room k (omega (arith, offset-small q m h, offset-burst q m)) l
-    (omega (arith, offset-room q m h, offset-burst q m))

@@ -6,8 +6,7 @@ use mathlib.Core.List.{List, [], _∷_}
 use Prim.Native.Nat.{ℕ, zero, suc, _+_, _*_, _≤_, _<_}
 use native.Mathlib.Omega.{arith}
 use lib.Dec.{lit≤}
-use lib.ListN.{length, getD, drop}
-use lib.Seq.{drop-length}
+use lib.ListN.{length, getD}
 use Rattle.context.specs.Layout.{recordSize}
 use Rattle.edges.specs.declared.Edge.{Edge}
 use Rattle.edges.specs.declared.Edge.the-variants.{ResetToInit, InitToInit, InitToRtr, RtrToRts, RtsToRts, SqeToRts, RtsToSqd, SqdToSqd, SqdToRts, ToErr, ToReset}
@@ -95,10 +94,6 @@ bursts-once (request.Engine (engine.Write p n psn s)) = psn-once p
 pub total-bursts : (q : Request) → totalOf q ≡ length (burstsOf q)
 total-bursts (request.Command c) = refl
 total-bursts (request.Engine e) = refl
-
--- no burst is left after the last
-pub bursts-end : (q : Request) → drop (totalOf q) (burstsOf q) ≡ []
-bursts-end q = rw (total-bursts q) (drop-length (burstsOf q))
 
 pub offset-burst : (q : Request) (m : ℕ) → offsetOf q m ≡ 16 * getD (burstsOf q) m 0
 offset-burst (request.Command c) m = omega arith

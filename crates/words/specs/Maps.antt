@@ -36,21 +36,6 @@ getD-mapFrom f b (x ∷ l) zero h = ap (λ (k : ℕ). f k x) (sym (add-zero b))
 getD-mapFrom f b (x ∷ l) (suc i) h =
     getD-mapFrom f (suc b) l i (le-of-suc-le-suc h) ∙ ap (λ (k : ℕ). f k (getD l i 0)) (suc-add b i ∙ sym (add-suc b i))
 
--- a part of the mapped list is the mapped part
-pub part-mapFrom : (f : ℕ → ℕ → ℕ) (b at n : ℕ) (l : List ℕ) → at + n ≤ length l → part at n (mapFrom f b l) ≡ mapFrom f (b + at) (part at n l)
-part-mapFrom f b at n l h =
-    ext-getD 0 (part at n (mapFrom f b l)) (mapFrom f (b + at) (part at n l)) (first ∙ sym (length-mapFrom f (b + at) (part at n l) ∙ length-part at n l h))
-    (λ i j. let j′ : i < n = omega (arith, first) in
-    getD-part at n (mapFrom f b l) i j′ ∙ getD-mapFrom f b l (at + i) (omega arith)
-    ∙ ap (λ (x : ℕ). f x (getD l (at + i) 0)) (re i) ∙ ap (f (b + at + i)) (sym (getD-part at n l i j′))
-    ∙ sym (getD-mapFrom f (b + at) (part at n l) i (omega (arith, length-part at n l h))))
-  where
-    re : (i : ℕ) → b + (at + i) ≡ b + at + i
-    re i = omega arith
-
-    first : length (part at n (mapFrom f b l)) ≡ n
-    first = length-part at n (mapFrom f b l) (omega (arith, length-mapFrom f b l))
-
 -- what is as long as r and has f of each place and element is the map of r
 pub made-map : (f : ℕ → ℕ → ℕ) (l r : List ℕ) → length l ≡ length r
     → ((i : ℕ) → i < length r → getD l i 0 ≡ f i (getD r i 0)) → l ≡ mapFrom f 0 r
