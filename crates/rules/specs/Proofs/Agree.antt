@@ -155,7 +155,7 @@ pub length-whole : (q : Request) (mail r : List ℕ) → needOf q ≤ length mai
     → length (wholeEffect q mail r) ≡ length r
 length-whole q mail r h w = ap length (whole-bytes q mail r h w) ∙ length-mapFrom (byteOf q mail) 0 r
 
--- "Reads ..: Nothing changes."
+-- "Reads .. Nothing changes."
 pub whole-reader : (q : Request) (mail r : List ℕ) → writesOf q ≡ false → wholeEffect q mail r ≡ r
 whole-reader (request.Command (command.Sw2Hw o)) mail r e = absurd (false≢true (sym e))
 whole-reader (request.Command (command.Hw2Sw o)) mail r e = absurd (false≢true (sym e))
