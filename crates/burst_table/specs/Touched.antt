@@ -9,7 +9,7 @@ use Rattle.burst_table.specs.Bursts.{burstSize, burstsFrom}
 
 -- byte i lies in burst j
 abbrev pub Inside : ℕ → ℕ → Type 0
-Inside i j = (16 * j ≤ i) × (i < 16 * j + 16)
+Inside i j = (burstSize * j ≤ i) × (i < burstSize * j + burstSize)
 
 -- byte i lies in one of the bursts
 abbrev pub Touched : ℕ → List ℕ → Type 0

@@ -11,12 +11,13 @@ use lib.ListN.{length, getD}
 use lib.Seq.{ext-getD}
 use Rattle.words.specs.Parts.{part, splice, length-part, getD-part, length-splice, splice-below, splice-in, splice-above}
 use Rattle.words.specs.Maps.{mapFrom, length-mapFrom, getD-mapFrom}
+use Rattle.burst_table.specs.Bursts.{burstSize}
 use Rattle.burst_table.specs.Touched.{Inside, Touched}
 
 -- every burst lies in n bytes
 abbrev pub Fit : ℕ → List ℕ → Type 0
 Fit n [] = Unit {0}
-Fit n (j ∷ js) = (16 * j + 16 ≤ n) × Fit n js
+Fit n (j ∷ js) = (burstSize * j + burstSize ≤ n) × Fit n js
 
 -- no burst twice
 abbrev pub Fresh : ℕ → List ℕ → Type 0
@@ -29,7 +30,7 @@ Distinct (j ∷ js) = Fresh j js × Distinct js
 
 -- the record c after one burst, made from what stands there
 abbrev pub burst : (ℕ → ℕ → ℕ) → ℕ → List ℕ → List ℕ
-burst f j c = splice (16 * j) (mapFrom f (16 * j) (part (16 * j) 16 c)) c
+burst f j c = splice (burstSize * j) (mapFrom f (burstSize * j) (part (burstSize * j) burstSize c)) c
 
 -- the record after a list of bursts
 abbrev pub after : (ℕ → ℕ → ℕ) → List ℕ → List ℕ → List ℕ

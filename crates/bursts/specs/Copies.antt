@@ -7,12 +7,13 @@ use native.Mathlib.Decide.{decLt}
 use native.Mathlib.Omega.{arith}
 use lib.ListN.{length, getD}
 use Rattle.words.specs.Parts.{part, splice, length-part, getD-part, length-splice, splice-below, splice-in, splice-above}
+use Rattle.burst_table.specs.Bursts.{burstSize}
 use Rattle.burst_table.specs.Touched.{Inside, Touched}
 use Rattle.bursts.specs.Bursts.{Fit, inside?}
 
 -- "A read burst is copied to the offset in that part which it has in the record": burst j of the record c goes to the buffer
 abbrev pub copy : ℕ → List ℕ → List ℕ → List ℕ
-copy j c buf = splice (16 * j) (part (16 * j) 16 c) buf
+copy j c buf = splice (burstSize * j) (part (burstSize * j) burstSize c) buf
 
 -- the buffer after a list of bursts
 abbrev pub copies : List ℕ → List ℕ → List ℕ → List ℕ
