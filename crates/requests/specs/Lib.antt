@@ -1,3 +1,2 @@
--- What a request is, and how it is read from what is submitted.
-pub mod Commands
-pub mod Engines
+-- What a request is.
+pub mod Psns

@@ -10,16 +10,16 @@ use Rattle.hcr.specs.declared.HcrCommand.{HcrCommand}
 use Rattle.hcr.specs.declared.ReadAnswer.{ReadAnswer}
 use Rattle.hcr.specs.declared.ReadAnswer.the-variants as hcr
 use Rattle.context.specs.declared.Logs.{Logs}
-use Rattle.requests.specs.Commands.{opOf, commandOf}
-use Rattle.requests.specs.Engines.{numberOf, engineOf}
-use Rattle.requests.specs.declared.CommandFound.{CommandFound}
-use Rattle.requests.specs.declared.CommandFound.the-variants as found
-use Rattle.requests.specs.declared.EngineFound.{EngineFound}
-use Rattle.requests.specs.declared.EngineFound.the-variants as engine
-use Rattle.requests.specs.declared.OpFound.{OpFound}
-use Rattle.requests.specs.declared.OpFound.the-variants as op
-use Rattle.requests.specs.declared.NumberFound.{NumberFound}
-use Rattle.requests.specs.declared.NumberFound.the-variants as number
+use Rattle.commands.specs.Commands.{opOf, commandOf}
+use Rattle.engines.specs.Engines.{numberOf, engineOf}
+use Rattle.commands.specs.declared.CommandFound.{CommandFound}
+use Rattle.commands.specs.declared.CommandFound.the-variants as found
+use Rattle.engines.specs.declared.EngineFound.{EngineFound}
+use Rattle.engines.specs.declared.EngineFound.the-variants as engine
+use Rattle.commands.specs.declared.OpFound.{OpFound}
+use Rattle.commands.specs.declared.OpFound.the-variants as op
+use Rattle.engines.specs.declared.NumberFound.{NumberFound}
+use Rattle.engines.specs.declared.NumberFound.the-variants as number
 use Rattle.requests.specs.declared.Request.{Request}
 use Rattle.requests.specs.declared.Request.the-variants as request
 use Rattle.tables.specs.Mailboxes.{needOf}

@@ -14,13 +14,13 @@ use Rattle.context.specs.Layout.{inUse}
 use Rattle.context.specs.Init.{initOf}
 use Rattle.context.specs.declared.Init.{Init}
 use Rattle.context.specs.declared.Init.the-variants as init
-use Rattle.requests.specs.Commands.{opOf, commandOf}
-use Rattle.requests.specs.declared.CommandFound.{CommandFound}
-use Rattle.requests.specs.declared.CommandFound.the-variants as found
-use Rattle.requests.specs.declared.Op.{Op}
-use Rattle.requests.specs.declared.Op.the-variants as op
-use Rattle.requests.specs.declared.OpFound.{OpFound}
-use Rattle.requests.specs.declared.OpFound.the-variants.{Served, NotServed}
+use Rattle.commands.specs.Commands.{opOf, commandOf}
+use Rattle.commands.specs.declared.CommandFound.{CommandFound}
+use Rattle.commands.specs.declared.CommandFound.the-variants as found
+use Rattle.commands.specs.declared.Op.{Op}
+use Rattle.commands.specs.declared.Op.the-variants as op
+use Rattle.commands.specs.declared.OpFound.{OpFound}
+use Rattle.commands.specs.declared.OpFound.the-variants.{Served, NotServed}
 use Rattle.requests.specs.declared.Request.the-variants as request
 use Rattle.slots.specs.Slots.{isOccupied, hasCommand}
 use Rattle.rows.specs.Rows.{anySlot}

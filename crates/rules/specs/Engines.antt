@@ -3,11 +3,11 @@ use mathlib.Core.Bool.{not}
 use mathlib.Core.List.{[]}
 use Prim.Native.Nat.{ℕ}
 use Rattle.words.specs.Choice.{pick}
-use Rattle.requests.specs.Engines.{numberOf, engineOf}
-use Rattle.requests.specs.declared.EngineFound.{EngineFound}
-use Rattle.requests.specs.declared.EngineFound.the-variants as found
-use Rattle.requests.specs.declared.NumberFound.{NumberFound}
-use Rattle.requests.specs.declared.NumberFound.the-variants.{Served, NotServed}
+use Rattle.engines.specs.Engines.{numberOf, engineOf}
+use Rattle.engines.specs.declared.EngineFound.{EngineFound}
+use Rattle.engines.specs.declared.EngineFound.the-variants as found
+use Rattle.engines.specs.declared.NumberFound.{NumberFound}
+use Rattle.engines.specs.declared.NumberFound.the-variants.{Served, NotServed}
 use Rattle.requests.specs.declared.Request.the-variants as request
 use Rattle.rules.specs.declared.Refusal.the-variants as cause
 use Rattle.rules.specs.World.{World, badLent, badState}

@@ -11,8 +11,8 @@ use Rattle.context.specs.Init.{logsOf, initRows, initOf}
 use Rattle.context.specs.Layout.{rangesHold, fitsStore, isRecord, recordAt, recordOf, sameRecord}
 use Rattle.edges.specs.States.{isService}
 use Rattle.edges.specs.Edges.{permitsEdge, isActive, writeKeeps, writeFails, isSending, writeStops, permitsWrite, judgeOf}
-use Rattle.requests.specs.Commands.{opOf, commandOf as askedOf}
-use Rattle.requests.specs.Engines.{numberOf, stateFrom, engineOf}
+use Rattle.commands.specs.Commands.{opOf, commandOf as askedOf}
+use Rattle.engines.specs.Engines.{numberOf, stateFrom, engineOf}
 use Rattle.tables.specs.Records.{numbersHold}
 use Rattle.effects.specs.Fields.{stateOf, serviceOf, isHardware}
 use Rattle.answers.specs.Answers.{stateAnswer, nextAnswer, wholeAnswer}

@@ -6,7 +6,7 @@ use Rattle.context.specs.Layout.{isRecord}
 use Rattle.context.specs.declared.Logs.{Logs}
 use Rattle.context.specs.declared.Record.{Record}
 use Rattle.context.specs.declared.Record.the-variants as rec
-use Rattle.requests.specs.Engines.{psnFits}
+use Rattle.requests.specs.Psns.{psnFits}
 use Rattle.requests.specs.declared.Owned.{Owned}
 use Rattle.requests.specs.declared.Owned.the-variants as owned
 use Rattle.requests.specs.declared.Command.{Command}

@@ -4,12 +4,12 @@
 mod memory;
 mod reference;
 
+use commands::CommandFound;
+use commands::OpFound;
 use context::Logs;
 use context::QpNumber;
 use edges::State;
-use requests::CommandFound;
 use requests::Engine;
-use requests::OpFound;
 use requests::Psn;
 use requests::Request;
 
@@ -53,10 +53,10 @@ fn move_bursts(store: &mut [u8], request: Request) {
 
 // A write that the model does not serve leaves the store, and the comparison then fails.
 fn move_command(store: &mut [u8], op: u16, op_modifier: u8) {
-    let OpFound::Served(served) = requests::read_op(op) else {
+    let OpFound::Served(served) = commands::read_op(op) else {
         return;
     };
-    let found = requests::read_command(served, op_modifier, INDEX, LOGS);
+    let found = commands::read_command(served, op_modifier, INDEX, LOGS);
     let CommandFound::OnRecord(command) = found else {
         return;
     };

@@ -11,23 +11,24 @@ use Rattle.context.specs.declared.QpFound.{QpFound}
 use Rattle.context.specs.declared.CqFound.{CqFound}
 use Rattle.context.specs.declared.EqFound.{EqFound}
 use Rattle.context.specs.declared.MptFound.{MptFound}
-use Rattle.requests.specs.Commands.{opModifierOf, onMpt, onEq, onCq, sw2hwOf, hw2swOf, resizeOf, queryOf, modifyOf, addressed, commandOf}
-use Rattle.requests.specs.Engines.{stateFrom, withState, engineOn, engineAt, engineOf, psnFits}
+use Rattle.commands.specs.Commands.{opModifierOf, onMpt, onEq, onCq, sw2hwOf, hw2swOf, resizeOf, queryOf, modifyOf, addressed, commandOf}
+use Rattle.engines.specs.Engines.{stateFrom, withState, engineOn, engineAt, engineOf}
+use Rattle.requests.specs.Psns.{psnFits}
 use Rattle.requests.specs.declared.Command.{Command}
-use Rattle.requests.specs.declared.CommandFound.{CommandFound}
-use Rattle.requests.specs.declared.CommandFound.the-variants as found
+use Rattle.commands.specs.declared.CommandFound.{CommandFound}
+use Rattle.commands.specs.declared.CommandFound.the-variants as found
 use Rattle.requests.specs.declared.Engine.{Engine}
 use Rattle.requests.specs.declared.Engine.the-variants as engine
-use Rattle.requests.specs.declared.EngineFound.{EngineFound}
-use Rattle.requests.specs.declared.EngineFound.the-variants as asked
-use Rattle.requests.specs.declared.EngineNumber.{EngineNumber}
-use Rattle.requests.specs.declared.EngineNumber.the-variants as number
-use Rattle.requests.specs.declared.Op.{Op}
-use Rattle.requests.specs.declared.Op.the-variants as op
+use Rattle.engines.specs.declared.EngineFound.{EngineFound}
+use Rattle.engines.specs.declared.EngineFound.the-variants as asked
+use Rattle.engines.specs.declared.EngineNumber.{EngineNumber}
+use Rattle.engines.specs.declared.EngineNumber.the-variants as number
+use Rattle.commands.specs.declared.Op.{Op}
+use Rattle.commands.specs.declared.Op.the-variants as op
 use Rattle.requests.specs.declared.Psn.{Psn}
-use Rattle.requests.specs.declared.StateFound.{StateFound}
-use Rattle.requests.specs.declared.StateFound.the-variants as stateFound
-use Rattle.requests.specs.declared.Table.the-variants as table
+use Rattle.engines.specs.declared.StateFound.{StateFound}
+use Rattle.engines.specs.declared.StateFound.the-variants as stateFound
+use Rattle.commands.specs.declared.Table.the-variants as table
 use Rattle.tables.specs.Records.{commandRecord, engineRecord}
 use Rattle.rules.specs.Commands.{badSystem, isClose}
 

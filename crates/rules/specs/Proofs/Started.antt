@@ -20,12 +20,12 @@ use Rattle.context.specs.declared.Init.{Init}
 use Rattle.context.specs.declared.Init.the-variants as init
 use Rattle.context.specs.declared.Logs.{Logs}
 use Rattle.context.specs.declared.Record.{Record}
-use Rattle.requests.specs.Commands.{opOf, commandOf}
-use Rattle.requests.specs.declared.CommandFound.{CommandFound}
-use Rattle.requests.specs.declared.CommandFound.the-variants as found
-use Rattle.requests.specs.declared.Op.{Op}
-use Rattle.requests.specs.declared.OpFound.{OpFound}
-use Rattle.requests.specs.declared.OpFound.the-variants as opFound
+use Rattle.commands.specs.Commands.{opOf, commandOf}
+use Rattle.commands.specs.declared.CommandFound.{CommandFound}
+use Rattle.commands.specs.declared.CommandFound.the-variants as found
+use Rattle.commands.specs.declared.Op.{Op}
+use Rattle.commands.specs.declared.OpFound.{OpFound}
+use Rattle.commands.specs.declared.OpFound.the-variants as opFound
 use Rattle.slots.specs.declared.Status.the-variants.{Free}
 use Rattle.rules.specs.World.{World, statusAt, badLent, badState}
 use Rattle.rules.specs.Admission.{Submitted}

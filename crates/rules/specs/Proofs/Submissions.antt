@@ -18,16 +18,16 @@ use Rattle.context.specs.declared.Init.the-variants as init
 use Rattle.context.specs.declared.Logs.{Logs}
 use Rattle.edges.specs.declared.Verdict.{Verdict}
 use Rattle.edges.specs.declared.Verdict.the-variants.{Permitted, NotPermitted}
-use Rattle.requests.specs.Commands.{opOf, commandOf}
-use Rattle.requests.specs.Engines.{numberOf, engineOf}
-use Rattle.requests.specs.declared.CommandFound.{CommandFound}
-use Rattle.requests.specs.declared.CommandFound.the-variants as found
-use Rattle.requests.specs.declared.EngineFound.{EngineFound}
-use Rattle.requests.specs.declared.EngineFound.the-variants as engine
-use Rattle.requests.specs.declared.NumberFound.{NumberFound}
-use Rattle.requests.specs.declared.NumberFound.the-variants as number
-use Rattle.requests.specs.declared.OpFound.{OpFound}
-use Rattle.requests.specs.declared.OpFound.the-variants as opFound
+use Rattle.commands.specs.Commands.{opOf, commandOf}
+use Rattle.engines.specs.Engines.{numberOf, engineOf}
+use Rattle.commands.specs.declared.CommandFound.{CommandFound}
+use Rattle.commands.specs.declared.CommandFound.the-variants as found
+use Rattle.engines.specs.declared.EngineFound.{EngineFound}
+use Rattle.engines.specs.declared.EngineFound.the-variants as engine
+use Rattle.engines.specs.declared.NumberFound.{NumberFound}
+use Rattle.engines.specs.declared.NumberFound.the-variants as number
+use Rattle.commands.specs.declared.OpFound.{OpFound}
+use Rattle.commands.specs.declared.OpFound.the-variants as opFound
 use Rattle.requests.specs.declared.Request.{Request}
 use Rattle.requests.specs.declared.Request.the-variants as request
 use Rattle.tables.specs.Mailboxes.{needOf}

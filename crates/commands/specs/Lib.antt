@@ -1,0 +1,2 @@
+-- How a command is read.
+pub mod Commands

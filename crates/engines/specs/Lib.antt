@@ -1,0 +1,2 @@
+-- How an engine request is read.
+pub mod Engines

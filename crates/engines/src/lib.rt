@@ -1,0 +1,96 @@
+// How an engine request is read: from its number to what is served, and from index, PSN and state to
+// the request.
+use context::Logs;
+use context::QpFound;
+use context::QpNumber;
+use edges::State;
+use requests::Engine;
+use requests::Psn;
+ghost use mathlib.Core.Path.{_≡_};
+ghost use Rattle.engines.specs.Engines.{numberOf, stateFrom, engineWriteOf, engineOn, engineOf};
+
+// The engine requests' numbers that are served.
+pub enum EngineNumber {
+    ReadState,
+    ReadNext,
+    ReadAll,
+    Write(Psn),
+}
+
+pub enum NumberFound {
+    Served(EngineNumber),
+    NotServed,
+}
+
+pub enum StateFound {
+    State(State),
+    OutOfRange,
+}
+
+pub enum EngineFound {
+    Asked(Engine),
+    Wrong,
+}
+
+pub fn read_number(number: u32) -> NumberFound
+    ensures { λ r. ⌜ r ≡ numberOf number ⌝ }
+{
+    match number {
+        1 => NumberFound::Served(EngineNumber::ReadState),
+        2 => NumberFound::Served(EngineNumber::ReadNext),
+        3 => NumberFound::Served(EngineNumber::Write(Psn::NextSend)),
+        4 => NumberFound::Served(EngineNumber::Write(Psn::LastAcked)),
+        5 => NumberFound::Served(EngineNumber::Write(Psn::Expected)),
+        6 => NumberFound::Served(EngineNumber::ReadAll),
+        _ => NumberFound::NotServed,
+    }
+}
+
+fn read_state(code: u8) -> StateFound
+    ensures { λ r. ⌜ r ≡ stateFrom code ⌝ }
+{
+    match code {
+        0 => StateFound::State(State::Reset),
+        1 => StateFound::State(State::Init),
+        2 => StateFound::State(State::Rtr),
+        3 => StateFound::State(State::Rts),
+        4 => StateFound::State(State::Sqe),
+        5 => StateFound::State(State::Sqd),
+        6 => StateFound::State(State::Err),
+        _ => StateFound::OutOfRange,
+    }
+}
+
+fn engine_write(which: Psn, n: QpNumber, psn: u32, found: StateFound) -> EngineFound
+    ensures { λ r. ⌜ r ≡ engineWriteOf which n psn found ⌝ }
+{
+    if !requests::psn_fits(psn) {
+        return EngineFound::Wrong;
+    }
+    match found {
+        StateFound::State(s) => EngineFound::Asked(Engine::Write(which, n, psn, s)),
+        StateFound::OutOfRange => EngineFound::Wrong,
+    }
+}
+
+fn engine_on(number: EngineNumber, n: QpNumber, psn: u32, code: u8) -> EngineFound
+    ensures { λ r. ⌜ r ≡ engineOn number n psn code ⌝ }
+{
+    match number {
+        EngineNumber::ReadState => EngineFound::Asked(Engine::ReadState(n)),
+        EngineNumber::ReadNext => EngineFound::Asked(Engine::ReadNext(n)),
+        EngineNumber::ReadAll => EngineFound::Asked(Engine::ReadAll(n)),
+        EngineNumber::Write(which) => engine_write(which, n, psn, read_state(code)),
+    }
+}
+
+// The engine request, or `Wrong` where index, PSN or state is wrong. Reads do not look at PSN and
+// state.
+pub fn read_engine(number: EngineNumber, index: u32, psn: u32, code: u8, logs: Logs) -> EngineFound
+    ensures { λ r. ⌜ r ≡ engineOf logs number index psn code ⌝ }
+{
+    match context::qp_number(logs, index) {
+        QpFound::Number(n) => engine_on(number, n, psn, code),
+        QpFound::OutOfRange => EngineFound::Wrong,
+    }
+}
