@@ -39,8 +39,8 @@ pub fn lowest_free(row: [Slot; 8]) -> Found
 pub fn any_occupied(row: [Slot; 8]) -> bool
     ensures { λ r. ⌜ r ≡ anySlot isOccupied row ⌝ }
 {
-    for i in 0..8 {
-        if slots::is_occupied(row[i]) {
+    for k in 0..8 {
+        if slots::is_occupied(row[k]) {
             return true;
         }
     }

@@ -11,10 +11,10 @@ use Rattle.rows.proofs.any_occupied.Statement.{statement}
 use Rattle.rows.proofs.any_occupied.Tie as tie
 
 abbrev Inv-loop : tie.InvT-loop
-Inv-loop row i₀ i = (i ≤ 8) × (anySlot isOccupied (drop i row) ≡ anySlot isOccupied row)
+Inv-loop row k₀ k = (k ≤ 8) × (anySlot isOccupied (drop k row) ≡ anySlot isOccupied row)
 
 abbrev μ-loop : tie.MeasureT-loop
-μ-loop row i₀ i = 8 - i
+μ-loop row k₀ k = 8 - k
 
 loop-holds : tie.Need-loop-holds Inv-loop μ-loop
 loop-holds c = search needs
@@ -31,8 +31,8 @@ is-occupied-requires c κs = search needs
 returns : tie.Need-returns Inv-loop μ-loop
 returns c = search (needs, told, any-found)
 
-add-i : tie.Need-add-i Inv-loop μ-loop
-add-i c = search needs
+add-k : tie.Need-add-k Inv-loop μ-loop
+add-k c = search needs
 
 loop-less : tie.Need-loop-less Inv-loop μ-loop
 loop-less c = search needs
@@ -54,7 +54,7 @@ any-occupied-spec =
     array-copy-out-is-occupied
     is-occupied-requires
     returns
-    add-i
+    add-k
     loop-less
     loop-again
     returns-2)
