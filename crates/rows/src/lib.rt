@@ -96,7 +96,7 @@ pub fn held_from(row: [Slot; 8], start: usize, request: Request) -> bool
             if !clashes(running, writes, records[j]) {
                 continue;
             }
-            return true;
+            return true; // the first clash leaves both loops
         }
     }
     false

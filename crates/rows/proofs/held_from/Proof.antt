@@ -88,17 +88,14 @@ loop2-less : tie.Need-loop2-less Inv-loop2 μ-loop2 Inv-loop μ-loop
 loop2-less c = search needs
 
 loop2-again : tie.Need-loop2-again Inv-loop2 μ-loop2 Inv-loop μ-loop
-loop2-again c =
-    let no : c .before .clashes .result ≡ false = not-true _ (c .if1 .taken) in
-    search (needs, told, records-more)
+loop2-again c = search (needs, told, not-true, records-more)
 
 returns : tie.Need-returns Inv-loop2 μ-loop2 Inv-loop μ-loop
 returns c =
-    let yes : c .before .clashes .result ≡ true = not-false _ (c .if1 .left) in
     let at = c .before .before .before .before .before .before in
     let top = at .before .before .before .before in
     let hit : clashSlot (top .before .writes .result) (top .before .before .records-of .result) (getD (top .before .before .before .args .t1) (top .loop .i) (slot Free)) ≡ true =
-    running-is (at .status .given .1) _ _ true (search (needs, told, records-found (c .before .before .before .before .loop2 .j))) in
+    running-is (at .status .given .1) _ _ true (search (needs, told, not-false, records-found (c .before .before .before .before .loop2 .j))) in
     let eight : length (top .before .before .before .args .t1) ≡ 8 = search needs in
     let found = any-found _ _ _ _ eight (at .before .before .before .loop-test .taken) hit (top .loop .inv .2) in
     search (needs, held-is)
