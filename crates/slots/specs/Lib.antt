@@ -1,3 +1,3 @@
 -- A slot by value and its moves.
 pub mod Slots
-pub mod Totals
+pub mod Advance

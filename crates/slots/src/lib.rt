@@ -37,7 +37,7 @@ impl Status {
             Status::Free => self,
             Status::Running(request, moved) => {
                 let total = burst_table::total(request);
-                if moved < total - 1 {
+                if left(request, moved) > 1 {
                     return Status::Running(request, moved + 1);
                 }
                 Status::Finished(request, total)

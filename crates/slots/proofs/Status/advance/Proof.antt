@@ -1,6 +1,6 @@
 -- `slots::Status::advance` meets its contract.
 use borrow.Author.Needs.{needs}
-use Rattle.slots.specs.Totals.{is-positive, moves-on, finishes}
+use Rattle.slots.specs.Advance.{moves-on, finishes}
 use Rattle.slots.proofs.Status.advance.Statement.{statement}
 use Rattle.slots.proofs.Status.advance.Tie as tie
 
@@ -13,8 +13,8 @@ enum-known-self c = search needs
 total-requires : tie.Need-total-requires
 total-requires c κs = search needs
 
-sub-if1 : tie.Need-sub-if1
-sub-if1 c = search (needs, is-positive)
+left-requires : tie.Need-left-requires
+left-requires c κs = search needs
 
 add-t8 : tie.Need-add-t8
 add-t8 c = search needs
@@ -41,7 +41,7 @@ advance-spec =
     enum-told
     enum-known-self
     total-requires
-    sub-if1
+    left-requires
     add-t8
     returns
     enum-told-2
