@@ -6,7 +6,6 @@ use lib.Dec.{eqb, ltb}
 use Rattle.words.specs.Choice.{pick, both, either}
 use Rattle.context.specs.Layout.{fitsStore}
 use Rattle.context.specs.declared.Logs.{Logs}
-use Rattle.requests.specs.declared.Request.{Request}
 use Rattle.tables.specs.Records.{numbersHold}
 use Rattle.burst_table.specs.Bursts.{totalOf}
 use Rattle.states.specs.declared.Hca.{Hca}
@@ -17,18 +16,20 @@ use Rattle.slots.specs.Slots.{isOccupied, hasCommand}
 use Rattle.rows.specs.Rows.{anySlot, anyRest}
 use Rattle.rows.specs.Holds.{heldAgainst}
 
--- "a slot's request .. whose .. index, PSN or state would get 2 or 3 ..; bursts moved not below (running) or not equal to
--- (finished) its total"
-abbrev pub runningWrong : Logs → Request → ℕ → Bool
-runningWrong g q m = either (not (numbersHold g q)) (not (ltb m (totalOf q)))
+-- "a slot's request .. whose .. index, PSN or state would get 2 or 3": of a running slot and of a finished one alike
+abbrev pub requestWrong : Logs → Status → Bool
+requestWrong g Free = false
+requestWrong g (Running q m) = not (numbersHold g q)
+requestWrong g (Finished q m) = not (numbersHold g q)
 
-abbrev pub finishedWrong : Logs → Request → ℕ → Bool
-finishedWrong g q m = either (not (numbersHold g q)) (not (eqb m (totalOf q)))
+-- "bursts moved not below (running) or not equal to (finished) its total"
+abbrev pub burstsWrong : Status → Bool
+burstsWrong Free = false
+burstsWrong (Running q m) = not (ltb m (totalOf q))
+burstsWrong (Finished q m) = not (eqb m (totalOf q))
 
 abbrev pub statusWrong : Logs → Status → Bool
-statusWrong g Free = false
-statusWrong g (Running q m) = runningWrong g q m
-statusWrong g (Finished q m) = finishedWrong g q m
+statusWrong g s = either (requestWrong g s) (burstsWrong s)
 
 abbrev pub slotWrong : Logs → Slot → Bool
 slotWrong g s = statusWrong g (s .status)
@@ -52,8 +53,8 @@ clashBefore s ss = statusClash (s .status) ss
 unfoldable pub holdsClash : List Slot → Bool
 holdsClash row = anyRest clashBefore row
 
--- "open with counts past their ranges or the store; a slot's request ..; two occupied slots with commands; running slots
--- whose holds clash"
+-- "open with counts past their ranges or the store; a slot's request ..; bursts moved ..; two occupied slots with commands;
+-- running slots whose holds clash"
 unfoldable pub openImpossible : Logs → ℕ → List Slot → Bool
 openImpossible g store row =
     either (not (fitsStore g store))

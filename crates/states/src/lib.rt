@@ -1,6 +1,5 @@
 // Which states handed in are impossible (0x87).
 use context::Logs;
-use requests::Request;
 use slots::Slot;
 use slots::Status;
 ghost use mathlib.Core.Path.{_≡_};
@@ -9,7 +8,7 @@ ghost use lib.ListN.{getD, drop};
 ghost use Rattle.slots.specs.Slots.{slot};
 ghost use Rattle.rows.specs.Rows.{anySlot};
 ghost use Rattle.slots.specs.declared.Status.the-variants.{Free};
-ghost use Rattle.states.specs.Possible.{runningWrong, finishedWrong, slotWrong, twoCommands, clashBefore, holdsClash, openImpossible, impossible};
+ghost use Rattle.states.specs.Possible.{requestWrong, burstsWrong, slotWrong, twoCommands, clashBefore, holdsClash, openImpossible, impossible};
 
 // What the caller hands in and gets back: whether the adapter is open, the logarithms of the counts,
 // and the length of the store that INIT_HCA was lent.
@@ -19,35 +18,36 @@ pub struct Hca {
     pub store_len: usize,
 }
 
-// A request whose index or PSN is wrong, or that should have finished.
-fn running_wrong(logs: Logs, request: Request, moved: u8) -> bool
-    ensures { λ r. ⌜ r ≡ runningWrong logs request moved ⌝ }
+// Whether the index or the PSN of the slot's request is wrong.
+fn request_wrong(logs: Logs, status: Status) -> bool
+    ensures { λ r. ⌜ r ≡ requestWrong logs status ⌝ }
 {
-    if !tables::numbers_hold(request, logs) {
-        return true;
+    match status {
+        Status::Free => false,
+        Status::Running(request, _) => !tables::numbers_hold(request, logs),
+        Status::Finished(request, _) => !tables::numbers_hold(request, logs),
     }
-    !(moved < burst_table::total(request))
 }
 
-// A request whose index or PSN is wrong, or that has not moved its bursts.
-fn finished_wrong(logs: Logs, request: Request, moved: u8) -> bool
-    ensures { λ r. ⌜ r ≡ finishedWrong logs request moved ⌝ }
+// Whether the slot's request should have finished, or has not moved its bursts.
+fn bursts_wrong(status: Status) -> bool
+    ensures { λ r. ⌜ r ≡ burstsWrong status ⌝ }
 {
-    if !tables::numbers_hold(request, logs) {
-        return true;
+    match status {
+        Status::Free => false,
+        Status::Running(request, moved) => !(moved < burst_table::total(request)),
+        Status::Finished(request, moved) => moved != burst_table::total(request),
     }
-    moved != burst_table::total(request)
 }
 
 fn slot_wrong(logs: Logs, slot: Slot) -> bool
     ensures { λ r. ⌜ r ≡ slotWrong logs slot ⌝ }
 {
     let status = slot.status;
-    match status {
-        Status::Free => false,
-        Status::Running(request, moved) => running_wrong(logs, request, moved),
-        Status::Finished(request, moved) => finished_wrong(logs, request, moved),
+    if request_wrong(logs, status) {
+        return true;
     }
+    bursts_wrong(status)
 }
 
 fn any_wrong(logs: Logs, row: [Slot; 8]) -> bool

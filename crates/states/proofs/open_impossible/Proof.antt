@@ -2,6 +2,7 @@
 use borrow.Author.Needs.{needs}
 use Rattle.words.specs.Choice.{cases}
 use Rattle.states.specs.Possible.{openImpossible}
+use Rattle.states.specs.Turns.{told-not}
 use Rattle.states.proofs.open_impossible.Statement.{statement}
 use Rattle.states.proofs.open_impossible.Tie as tie
 
@@ -10,28 +11,28 @@ fits-store-requires c κs = search needs
 
 returns : tie.Need-returns
 unfolding openImpossible
-returns c = rw (← c .before .fits-store .ensures) (search cases)
+returns c = search (cases, told-not) depth 8
 
 any-wrong-requires : tie.Need-any-wrong-requires
 any-wrong-requires c κs = search needs
 
 returns-2 : tie.Need-returns-2
 unfolding openImpossible
-returns-2 c = rw (← c .before .before .before .fits-store .ensures) (search cases depth 8)
+returns-2 c = search (cases, told-not) depth 8
 
 two-commands-requires : tie.Need-two-commands-requires
 two-commands-requires c κs = search needs
 
 returns-3 : tie.Need-returns-3
 unfolding openImpossible
-returns-3 c = rw (← c .before .before .before .before .before .fits-store .ensures) (search cases depth 8)
+returns-3 c = search (cases, told-not) depth 8
 
 holds-clash-requires : tie.Need-holds-clash-requires
 holds-clash-requires c κs = search needs
 
 returns-4 : tie.Need-returns-4
 unfolding openImpossible
-returns-4 c = rw (← c .before .before .before .before .before .before .fits-store .ensures) (search cases depth 8)
+returns-4 c = search (cases, told-not) depth 8
 
 pub open-impossible-spec : {M : Type 1} → statement M
 open-impossible-spec =
