@@ -81,9 +81,6 @@ changed-at P (x ∷ xs) (suc k) (suc i) s h g = changed-at P xs k i s h g
 pub none-set : (p : Slot → Bool) (row : List Slot) (k : ℕ) (s : Slot) → p s ≡ false → None p row → None p (set row k s)
 none-set p row k s e h i = changed-at (λ (x : Slot). p x ≡ false) row k i s e (h i)
 
-pub any-set : (p : Slot → Bool) (row : List Slot) (k : ℕ) (s : Slot) → p (slot Free) ≡ false → p s ≡ false → anySlot p row ≡ false → anySlot p (set row k s) ≡ false
-any-set p row k s f e h = each-none p (set row k s) (none-set p row k s e (none-each p row f h))
-
 pub pairs-set : (t : Slot → Slot → Bool) (row : List Slot) (k : ℕ) (s : Slot) → ((s u : Slot) → t s u ≡ t u s)
     → ((i : ℕ) → ¬ (i ≡ k) → t s (at row i) ≡ false) → NoTwo t row → NoTwo t (set row k s)
 pairs-set t row k s swap new h i j n = go (ℕ-discrete i k) (ℕ-discrete j k)

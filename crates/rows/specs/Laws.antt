@@ -16,7 +16,7 @@ use Rattle.words.specs.Tests.{neither-left, either-swap, either-false, eqb-swap
 use Rattle.slots.specs.Slots.{slot, occupiedStatus, isOccupied, hasCommand}
 use Rattle.rows.specs.Rows.{anySlot, lowestFree}
 use Rattle.rows.specs.Holds.{clashPair, clashRecords, clashStatus, clashSlot, heldAgainst}
-use Rattle.rows.specs.Every.{at, None, none-each, each-none}
+use Rattle.rows.specs.Every.{at, None, none-each}
 use Rattle.slots.specs.declared.Slot.{Slot}
 use Rattle.slots.specs.declared.Status.{Status}
 use Rattle.slots.specs.declared.Status.the-variants.{Free, Running, Finished}
@@ -47,10 +47,6 @@ held-symmetric q r m n =
 pub held-each : (row : List Slot) (q : Request) → heldAgainst row q ≡ false → None (clashSlot (writesOf q) (recordsOf q)) row
 unfolding heldAgainst
 held-each row q e = none-each (clashSlot (writesOf q) (recordsOf q)) row refl e
-
-pub each-held : (row : List Slot) (q : Request) → None (clashSlot (writesOf q) (recordsOf q)) row → heldAgainst row q ≡ false
-unfolding heldAgainst
-each-held row q h = each-none (clashSlot (writesOf q) (recordsOf q)) row h
 
 pub held-none : (row : List Slot) (q : Request) → heldAgainst row q ≡ false
     → (k : ℕ) (r : Request) (m : ℕ) → at row k .status ≡ Running r m → clashPair r (writesOf q) (recordOf q) ≡ false

@@ -24,7 +24,7 @@ use Rattle.slots.specs.declared.Status.{Status}
 use Rattle.slots.specs.declared.Status.the-variants.{Free, Running, Finished}
 use Rattle.states.specs.Possible.{statusWrong, impossible}
 use Rattle.states.specs.Pairs.{statusesClash}
-use Rattle.states.specs.Rows.{OpenRow, open-row, row-open, row-empty, row-accepted, row-advanced, row-freed}
+use Rattle.states.specs.Rows.{OpenRow, open-row, row-open, row-accepted, row-advanced, row-freed}
 use Rattle.states.specs.declared.Hca.{Hca}
 
 abbrev pub Possible : Hca → List Slot → Type 0
@@ -40,10 +40,6 @@ module _ (h : Hca) (row : List Slot) (o : h .«open» ≡ true) where
   pub open-possible : OpenRow (h .logs) (h .«store_len») row → Possible h row
   unfolding impossible
   open-possible r = rw o (row-open (h .logs) (h .«store_len») row r)
-
-  -- INIT_HCA: an open state without a request
-  pub open-empty : fitsStore (h .logs) (h .«store_len») ≡ true → anySlot isOccupied row ≡ false → Possible h row
-  open-empty f e = open-possible (row-empty (h .logs) (h .«store_len») row f e)
 
 module _ (h : Hca) (row : List Slot) (o : h .«open» ≡ false) where
   pub possible-closed : Possible h row → anySlot isOccupied row ≡ false

@@ -14,12 +14,12 @@ use Rattle.requests.specs.declared.Request.{Request}
 use Rattle.tables.specs.Records.{numbersHold, isCommand}
 use Rattle.burst_table.specs.Bursts.{totalOf}
 use Rattle.words.specs.Tests.{neither-left, neither-right, neither, both-false}
-use Rattle.slots.specs.Slots.{slot, advancedStatus, advanced, isOccupied, commandStatus, hasCommand}
+use Rattle.slots.specs.Slots.{slot, advancedStatus, advanced, commandStatus, hasCommand}
 use Rattle.rows.specs.Rows.{anySlot}
 use Rattle.rows.specs.Holds.{heldAgainst}
 use Rattle.burst_table.specs.Totals.{total-positive}
 use Rattle.rows.specs.Every.{at, None, NoTwo, none-each, each-none, none-set, pairs-set}
-use Rattle.rows.specs.Laws.{held-each, none-occupied, none-command}
+use Rattle.rows.specs.Laws.{held-each, none-command}
 use Rattle.slots.specs.declared.Slot.{Slot}
 use Rattle.slots.specs.declared.Status.{Status}
 use Rattle.slots.specs.declared.Status.the-variants.{Free, Running, Finished}
@@ -52,16 +52,6 @@ module _ (g : Logs) (store : ℕ) (row : List Slot) where
       (neither (anySlot (slotWrong g) row) _ (each-none (slotWrong g) row (o .right))
       (neither (twoCommands row) _ (pairs-commands row (o .commands))
       (pairs-clashes row (o .holds))))
-
-  -- a row without a request
-  pub row-empty : fitsStore g store ≡ true → anySlot isOccupied row ≡ false → OpenRow g store row
-  row-empty f e =
-      record {
-        fits = f;
-        right = λ k. ap (slotWrong g) (none-occupied row e k);
-        commands = λ i j n. ap (λ (s : Slot). bothCommands s (at row j)) (none-occupied row e i);
-        holds = λ i j n. ap (λ (s : Slot). slotsClash s (at row j)) (none-occupied row e i);
-      }
 
   -- slot k becomes s
   pub row-changed : (k : ℕ) (s : Slot) → slotWrong g s ≡ false
