@@ -11,12 +11,12 @@ pub mod View
 pub mod Found
 pub mod Admitted
 pub mod Moved
+pub mod Submissions
 pub mod Outcomes
 pub mod Events
 pub mod Started
 pub mod Serial
 -- What a call leaves as it was, and demand 2:
-pub mod Submissions
 pub mod Frame
 pub mod Kept
 pub mod Edges

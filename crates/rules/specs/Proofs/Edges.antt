@@ -42,19 +42,19 @@ use Rattle.slots.specs.declared.Status.{Status}
 use Rattle.slots.specs.declared.Status.the-variants.{Free, Running}
 use Rattle.rules.specs.World.{World, frontOf, statusAt, badState}
 use Rattle.rules.specs.Admission.{Submitted, recordNow, taken}
-use Rattle.rules.specs.Commands.{initialised, closed, submitCommand}
+use Rattle.rules.specs.Commands.{closed, submitCommand}
 use Rattle.rules.specs.Engines.{submitEngine}
 use Rattle.rules.specs.Steps.{Stepped, storeMoved, slotMoved, moved, stepOf}
 use Rattle.rules.specs.Collections.{Collected, collectOf}
 use Rattle.rules.specs.Resets.{Reset, resetOf}
-use Rattle.rules.specs.Calls.{Call, command as commanding, engineRequest, step, collection, resetting, worldAfter, answerOf, noteOf, commandFound, isDone, isInit, initialises, resetEnds, stops}
+use Rattle.rules.specs.Calls.{Call, command as commanding, engineRequest, step, collection, resetting, worldAfter, answerOf, noteOf, initialises, resetEnds, stops}
 use Rattle.rules.specs.Demand3.{Entry, noted, Run, runFrom}
 use Rattle.rules.specs.Proofs.View.{look-valid, lent-sized, open-fits, Runs, running, in-row}
 use Rattle.rules.specs.Proofs.Started.{Started, started}
 use Rattle.rules.specs.Proofs.Moved.{other-record}
 use Rattle.states.specs.Laws.{writer-alone}
 use Rattle.rules.specs.Frames.{Change, kept, burstMoved}
-use Rattle.rules.specs.Proofs.Submissions.{command-is, engine-is}
+use Rattle.rules.specs.Proofs.Submissions.{command-but-init, engine-is}
 use Rattle.rules.specs.Proofs.Outcomes.{Stepping, step-is, collect-is, reset-is}
 use Rattle.rules.specs.Proofs.Frame.{records-framed}
 use Rattle.rules.specs.Demand2.{Along, StateMove, stays, moves, Statement}
@@ -114,16 +114,14 @@ judged-same : (w u : World) → u .hca .logs ≡ w .hca .logs → u .store ≡ w
 unfolding Judged
 judged-same w u e f r i k q s wr = judged-store w u e f q (i k q (ap (statusAt k) (sym r) ∙ s) wr)
 
-command-judged : (w : World) (bytes mail : List ℕ) → initialises w bytes mail ≡ false → Judged w → Judged (submitCommand w bytes mail .world)
-unfolding initialises closed initialised
-command-judged w bytes mail =
-    command-is w (λ (s : Submitted). pick (isInit (commandFound (w .hca .logs) bytes)) (isDone (s .answer)) false ≡ false → Judged w → Judged (s .world))
-    (λ _ _ i. i) (λ q m k p _ i. judged-taken w q m k i (p .permitted)) (λ _ i. judged-same w (closed w) refl refl refl i) (λ _ i. i) bytes mail
-    (λ i g e _. absurd (true≢false (sym (ap (λ (b : Bool). pick b true false) i) ∙ e)))
+command-judged : (w : World) → Judged w → (bytes mail : List ℕ) → initialises w bytes mail ≡ false → Judged (submitCommand w bytes mail .world)
+unfolding closed
+command-judged w i =
+    command-but-init w (λ (s : Submitted). Judged (s .world)) (λ _. i) (λ q m k p. judged-taken w q m k i (p .permitted)) (judged-same w (closed w) refl refl refl i) i
 
 engine-judged : (w : World) (n index psn code : ℕ) → Judged w → Judged (submitEngine w n index psn code .world)
-engine-judged w n index psn code =
-    engine-is w (λ (s : Submitted). Judged w → Judged (s .world)) (λ _ i. i) (λ q m k p i. judged-taken w q m k i (p .permitted)) n index psn code
+engine-judged w n index psn code i =
+    engine-is w (λ (s : Submitted). Judged (s .world)) (λ _. i) (λ q m k p. judged-taken w q m k i (p .permitted)) n index psn code
 
 collect-judged : (w : World) (k : ℕ) (out : List ℕ) → Judged w → Judged (collectOf w k out .world)
 collect-judged w k out i = collect-is w k out (λ (c : Collected). Judged (c .world)) (λ _. i) (λ _ _. judged-free w _ k i refl refl refl)
@@ -189,7 +187,7 @@ reset-judged : (w : World) → resetEnds (resetOf w .answer) ≡ false → Judge
 reset-judged w = reset-is w (λ (r : Reset). resetEnds (r .answer) ≡ false → Judged w → Judged (r .world)) (λ _ _ i. i) (λ e. absurd (true≢false e))
 
 call-judged : (w : World) (c : Call) → stops w c ≡ false → Judged w → Judged (worldAfter w c)
-call-judged w (commanding bytes mail) e i = command-judged w bytes mail e i
+call-judged w (commanding bytes mail) e i = command-judged w i bytes mail e
 call-judged w (engineRequest n index psn code) e i = engine-judged w n index psn code i
 call-judged w (step k) e i = step-judged w k i
 call-judged w (collection k out) e i = collect-judged w k out i

@@ -1,6 +1,6 @@
 -- The frame is proved.
 use mathlib.Core.Path.{_≡_, refl, sym, _∙_, ap, subst}
-use mathlib.Core.Bool.{Bool, true, false, true≢false, false≢true}
+use mathlib.Core.Bool.{Bool, true, false, false≢true}
 use mathlib.Core.List.{List}
 use Prim.Native.Nat.{ℕ, _≤_}
 use lib.ListN.{length, getD}
@@ -20,12 +20,12 @@ use Rattle.rules.specs.Engines.{submitEngine}
 use Rattle.rules.specs.Steps.{Stepped, moved, stepOf}
 use Rattle.rules.specs.Collections.{Collected, collectOf}
 use Rattle.rules.specs.Resets.{Reset, resetOf}
-use Rattle.rules.specs.Calls.{command, engineRequest, step, collection, resetting, commandFound, isDone, isInit, initialises}
+use Rattle.rules.specs.Calls.{command, engineRequest, step, collection, resetting, initialises}
 use Rattle.rules.specs.Frames.{refusedSubmit, refusedStep, refusedCollect, refusedReset, Refusals, Change, kept, burstMoved, Records}
 use Rattle.rules.specs.Proofs.System.{at}
 use Rattle.rules.specs.Proofs.View.{lookAt, look-valid, length-look, lent-sized, open-fits, Runs, running}
 use Rattle.rules.specs.Proofs.Moved.{own-record, other-record}
-use Rattle.rules.specs.Proofs.Submissions.{command-is, engine-is}
+use Rattle.rules.specs.Proofs.Submissions.{command-is, command-but-init, engine-is}
 use Rattle.rules.specs.Proofs.Outcomes.{Stepping, step-is, collect-is, reset-is}
 
 no-refusal : {A : Type 0} → false ≡ true → A
@@ -66,11 +66,8 @@ refusals w resetting l e = (reset-leaves w e, refl)
 
 -- submissions, but for an initialisation that answers 0, and collections leave the store
 stores : (w : World) (bytes mail : List ℕ) → initialises w bytes mail ≡ false → submitCommand w bytes mail .world .store ≡ w .store
-unfolding initialises taken closed initialised
-stores w bytes mail =
-    command-is w (λ (s : Submitted). pick (isInit (commandFound (w .hca .logs) bytes)) (isDone (s .answer)) false ≡ false → s .world .store ≡ w .store)
-    (λ _ _. refl) (λ _ _ _ _ _. refl) (λ _. refl) (λ _. refl) bytes mail
-    (λ i g e. absurd (true≢false (sym (ap (λ (b : Bool). pick b true false) i) ∙ e)))
+unfolding taken closed
+stores w = command-but-init w (λ (s : Submitted). s .world .store ≡ w .store) (λ _. refl) (λ _ _ _ _. refl) refl refl
 
 engine-stores : (w : World) (n index psn code : ℕ) → submitEngine w n index psn code .world .store ≡ w .store
 unfolding taken

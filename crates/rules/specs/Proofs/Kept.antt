@@ -30,12 +30,12 @@ use Rattle.rules.specs.Commands.{initialised, closed}
 use Rattle.rules.specs.Steps.{Stepped, slotMoved, moved}
 use Rattle.rules.specs.Collections.{Collected}
 use Rattle.rules.specs.Resets.{Reset}
-use Rattle.rules.specs.Calls.{command, engineRequest, step, collection, resetting, submitted, commandFound, isDone, isInit, initialises, resetEnds}
+use Rattle.rules.specs.Calls.{command, engineRequest, step, collection, resetting, submitted, resetEnds}
 use Rattle.rules.specs.Frames.{refusedStep, takes, Written, Copied, Behind, Rooms, Rows, Counts}
 use Rattle.rules.specs.Proofs.System.{at}
 use Rattle.rules.specs.Proofs.View.{lookAt, look-valid, Sized, lent-sized, open-fits, Runs, running}
 use Rattle.rules.specs.Proofs.Moved.{own-record, read-copied, behind-kept, room-kept}
-use Rattle.rules.specs.Proofs.Submissions.{Taking, command-is, engine-is}
+use Rattle.rules.specs.Proofs.Submissions.{Taking, command-is, command-but-init, engine-is}
 use Rattle.rules.specs.Proofs.Outcomes.{Stepping, step-is, collect-is, reset-is}
 
 -- ---- the burst that a step makes
@@ -122,7 +122,7 @@ pub behind : Behind
 unfolding taken closed initialised moved
 behind w (command bytes mail) i =
     command-is w (λ (s : Submitted). BehindKept w i (s .world)) (λ _ _. refl) (λ _ _ _ _ _. refl) (λ _. refl) (λ _. refl) bytes mail
-    (λ _ g h. front-above (replicate (inUse g) 0) (w .store) i (omega (arith, length-replicate {A = ℕ} (inUse g) 0)))
+    (λ g _ h. front-above (replicate (inUse g) 0) (w .store) i (omega (arith, length-replicate {A = ℕ} (inUse g) 0)))
 behind w (engineRequest n index psn code) i =
     engine-is w (λ (s : Submitted). BehindKept w i (s .world)) (λ _ _. refl) (λ _ _ _ _ _. refl) n index psn code
 behind w (step k) i = step-is w k (λ (s : Stepped). BehindKept w i (s .world)) (λ _ _. refl) (λ q m s h. moved-behind w k q m s i h)
@@ -200,11 +200,9 @@ abbrev CountsKept : World → World → Type 0
 CountsKept w u = (u .hca .logs ≡ w .hca .logs) × (u .hca .«store_len» ≡ w .hca .«store_len»)
 
 pub counts : Counts
-unfolding initialises taken closed initialised moved
+unfolding taken closed moved
 counts w (command bytes mail) e =
-    command-is w (λ (s : Submitted). pick (isInit (commandFound (w .hca .logs) bytes)) (isDone (s .answer)) false ≡ false → CountsKept w (s .world))
-    (λ _ _. (refl, refl)) (λ _ _ _ _ _. (refl, refl)) (λ _. (refl, refl)) (λ _. (refl, refl)) bytes mail
-    (λ i g f. absurd (true≢false (sym (ap (λ (b : Bool). pick b true false) i) ∙ f))) e
+    command-but-init w (λ (s : Submitted). CountsKept w (s .world)) (λ _. (refl, refl)) (λ _ _ _ _. (refl, refl)) (refl, refl) (refl, refl) bytes mail e
 counts w (engineRequest n index psn code) e =
     engine-is w (λ (s : Submitted). CountsKept w (s .world)) (λ _. (refl, refl)) (λ _ _ _ _. (refl, refl)) n index psn code
 counts w (step k) e = step-is w k (λ (s : Stepped). CountsKept w (s .world)) (λ _. (refl, refl)) (λ _ _ _. (refl, refl))

@@ -4,36 +4,23 @@ use mathlib.Core.Bool.{Bool, true, false, false≢true}
 use mathlib.Core.List.{List, [], _++_}
 use Prim.Native.Nat.{ℕ, _+_, _≤_, _<_}
 use native.Mathlib.Omega.{arith}
-use lib.Dec.{ltb}
 use lib.ListN.{length, drop, replicate, length-append, length-replicate, getD-replicate, List·getD-append}
 use lib.Seq.{ext-getD}
-use Rattle.words.specs.Choice.{pick, either, by-pick}
+use Rattle.words.specs.Choice.{pick}
 use Rattle.words.specs.Parts.{part, splice, length-part, getD-part}
-use Rattle.hcr.specs.Register.{readOf}
-use Rattle.hcr.specs.declared.HcrCommand.{HcrCommand}
-use Rattle.hcr.specs.declared.ReadAnswer.{ReadAnswer}
-use Rattle.hcr.specs.declared.ReadAnswer.the-variants as hcr
-use Rattle.context.specs.Init.{initOf}
 use Rattle.context.specs.Layout.{inUse, isRecord, recordAt, recordSize, recordOf}
 use Rattle.context.specs.Records.{record-inside}
-use Rattle.context.specs.declared.Init.{Init}
-use Rattle.context.specs.declared.Init.the-variants as init
 use Rattle.context.specs.declared.Logs.{Logs}
 use Rattle.context.specs.declared.Record.{Record}
-use Rattle.commands.specs.Commands.{opOf, commandOf}
 use Rattle.commands.specs.declared.CommandFound.{CommandFound}
-use Rattle.commands.specs.declared.CommandFound.the-variants as found
-use Rattle.commands.specs.declared.Op.{Op}
-use Rattle.commands.specs.declared.OpFound.{OpFound}
-use Rattle.commands.specs.declared.OpFound.the-variants as opFound
 use Rattle.slots.specs.declared.Status.the-variants.{Free}
-use Rattle.rules.specs.World.{World, statusAt, badLent, badState}
+use Rattle.rules.specs.World.{World, statusAt}
 use Rattle.rules.specs.Admission.{Submitted}
-use Rattle.rules.specs.Commands.{initialised, asked, badSystem, busy, served, register, submitCommand}
-use Rattle.rules.specs.Calls.{opFound as opAsked, registerFound, commandFound, isDone, isInit, initialises}
+use Rattle.rules.specs.Commands.{initialised, submitCommand}
+use Rattle.rules.specs.Calls.{isDone, isInit, initialises}
 use Rattle.rules.specs.Demand3.{Zeroed}
 use Rattle.rules.specs.Proofs.View.{closed-free}
-use Rattle.rules.specs.Proofs.Found.{init-closed}
+use Rattle.rules.specs.Proofs.Submissions.{command-cases}
 
 pub record Started (w : World) : Type 0 where
   pub opened : w .hca .«open» ≡ true
@@ -69,51 +56,12 @@ no-done : (b : Bool) {A : Type 0} → pick b false false ≡ true → A
 no-done true e = absurd (false≢true e)
 no-done false e = absurd (false≢true e)
 
-module _ (w : World) (state : badState w ≡ false) (mail : List ℕ) where
-  abbrev Ok : CommandFound → Submitted → Type 0
-  Ok f s = pick (isInit f) (isDone (s .answer)) false ≡ true → Started (s .world)
-
-  initialised-started : w .hca .«open» ≡ false → (i : Init) → Ok found.InitHca (initialised w i)
-  unfolding initialised
-  initialised-started o (init.Layout g) e = record { opened = refl; freed = closed-free w state o; zeroed = record-zero g (w .store) }
-  initialised-started o init.ShortMailbox e = absurd (false≢true e)
-  initialised-started o init.OutOfRange e = absurd (false≢true e)
-
-  asked-started : (o : Op) (p n : ℕ) → badSystem (w .hca .«open») o ≡ false → (f : CommandFound) → commandOf (w .hca .logs) o p n ≡ f → Ok f (asked w mail f)
-  unfolding asked
-  asked-started o p n s found.InitHca e i = initialised-started (init-closed (w .hca .logs) o p n (w .hca .«open») e s) (initOf mail (length (w .store))) i
-  asked-started o p n s found.CloseHca e i = absurd (false≢true i)
-  asked-started o p n s found.Nop e i = absurd (false≢true i)
-  asked-started o p n s (found.OnRecord c) e i = absurd (false≢true i)
-  asked-started o p n s found.Wrong e i = absurd (false≢true i)
-
-  served-started : (c : HcrCommand) (f : OpFound) → Ok (opAsked (w .hca .logs) c f) (served w mail c f)
-  unfolding served
-  served-started c opFound.NotServed = λ e. absurd (false≢true e)
-  served-started c (opFound.Served o) =
-      let f : CommandFound = commandOf (w .hca .logs) o (c .«op_modifier») (c .«in_modifier») in
-      by-pick (Ok f) (badSystem (w .hca .«open») o) _ _ (λ _. no-done (isInit f))
-      (λ a. by-pick (Ok f) (busy (w .row) o) _ _ (λ _. no-done (isInit f)) (λ _. asked-started o (c .«op_modifier») (c .«in_modifier») a f refl))
-
-  register-started : (r : ReadAnswer) → Ok (registerFound (w .hca .logs) r) (register w mail r)
-  unfolding register
-  register-started hcr.Short = λ e. absurd (false≢true e)
-  register-started hcr.Malformed = λ e. absurd (false≢true e)
-  register-started (hcr.Command c) =
-      by-pick (Ok (opAsked (w .hca .logs) c (opOf (c .op)))) (c .event) _ _ (λ _. no-done (isInit (opAsked (w .hca .logs) c (opOf (c .op)))))
-      (λ _. served-started c (opOf (c .op)))
-
 pub started : (w : World) (bytes mail : List ℕ) → initialises w bytes mail ≡ true → Started (submitCommand w bytes mail .world)
-unfolding submitCommand initialises
+unfolding initialises initialised
 started w bytes mail =
-    by-pick (λ (s : Submitted). pick (isInit f) (isDone (s .answer)) false ≡ true → Started (s .world)) (either (badLent w) (ltb (length bytes) 28)) _ _
-    (λ _. no-done (isInit f))
-    (λ _. by-pick (λ (s : Submitted). pick (isInit f) (isDone (s .answer)) false ≡ true → Started (s .world)) (badState w) _ _
-    (λ _. no-done (isInit f))
-    (λ b. register-started w b mail (readOf bytes)))
-  where
-    f : CommandFound
-    f = commandFound (w .hca .logs) bytes
+    command-cases w mail (λ (f : CommandFound) (s : Submitted). pick (isInit f) (isDone (s .answer)) false ≡ true → Started (s .world))
+    (λ f _ _. no-done (isInit f)) (λ _ _ e. absurd (false≢true e)) (λ _ _ e. absurd (false≢true e)) (λ e. absurd (false≢true e))
+    (λ g s o _ _. record { opened = refl; freed = closed-free w s o; zeroed = record-zero g (w .store) }) bytes
 
 -- the book of an initialisation
 pub begins-zero : Zeroed
