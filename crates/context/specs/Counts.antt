@@ -1,14 +1,19 @@
 -- Logarithms within their ranges give counts and starts that no sum of the code wraps.
-use mathlib.Core.Path.{_≡_, sym, _∙_, ap}
+use mathlib.Core.Path.{_≡_, sym, _∙_, ap, subst}
+use mathlib.Core.List.{List}
 use mathlib.Core.Bool.{true}
 use Prim.Native.Nat.{ℕ, _*_, _%_, _^_, _≤_, _<_}
 use native.Mathlib.Nat.{one-mul, mod-eq-of-lt, lt-of-lt-of-le}
 use native.Mathlib.Omega.{arith}
 use borrow.Author.Tests.{leb-true, lt-ltb}
 use lib.Dec.{ltb, leb}
+use lib.ListN.{length}
 use lib.Pow.{pow-lt, pow-mono}
-use Rattle.words.specs.Choice.{both-left, both-right}
-use Rattle.context.specs.Layout.{startOf, inUse, rangesHold}
+use Rattle.words.specs.Choice.{both-left, both-right, by-pick}
+use Rattle.context.specs.Layout.{startOf, inUse, rangesHold, fitsStore}
+use Rattle.context.specs.Init.{logsOf, initRows, initOf}
+use Rattle.context.specs.declared.Init.{Init}
+use Rattle.context.specs.declared.Init.the-variants.{Layout}
 use Rattle.context.specs.declared.Kind.{Kind}
 use Rattle.context.specs.declared.Kind.the-variants as kind
 use Rattle.context.specs.declared.Logs.{Logs}
@@ -58,3 +63,13 @@ start-small g kind.Qp h = omega arith
 start-small g kind.Cq h = let s : Small g = small g h in omega arith
 start-small g kind.Eq h = let s : Small g = small g h in omega arith
 start-small g kind.Mpt h = let s : Small g = small g h in omega arith
+
+-- an INIT_HCA that is accepted leaves records that fit the store
+pub init-fits : (mailbox : List ℕ) (store : ℕ) (g : Logs) → initOf mailbox store ≡ Layout g → inUse g ≤ store
+unfolding initOf initRows fitsStore
+init-fits mailbox store g =
+    by-pick (λ (i : Init). i ≡ Layout g → inUse g ≤ store) (ltb (length mailbox) 64) _ _ (λ _ e. let z : _≡_ {A = ℕ} 0 1 = cc in absurd (omega arith))
+    (λ _. by-pick (λ (i : Init). i ≡ Layout g → inUse g ≤ store) (fitsStore (logsOf mailbox) store) _ _
+    (λ t e. let f : logsOf mailbox ≡ g = cc in
+    subst (λ (h : Logs). inUse h ≤ store) f (leb-true (inUse (logsOf mailbox)) store (both-right (rangesHold (logsOf mailbox)) _ t)))
+    (λ _ e. let z : _≡_ {A = ℕ} 0 1 = cc in absurd (omega arith)))

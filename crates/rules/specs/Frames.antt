@@ -9,6 +9,7 @@
 -- * `Rooms`, `Rows`: a call changes no byte of the room but in the part of the slot that it takes or steps, and no slot but the one
 --   that it takes, steps or collects; a reset empties all.
 -- * `Counts`: no call but an initialisation changes the counts or the length that it remembered.
+-- * `Sizes`: row, store and room keep their lengths.
 --
 -- What is not claimed here: which calls are refused, and with which number; that is what the rules say.
 use mathlib.Core.Path.{_≡_}
@@ -154,9 +155,14 @@ Rows =
     (w : World) (c : Call) → stops w c ≡ false → (j : ℕ) → takes (answerOf w c) j ≡ false → steps c j ≡ false → collects c j ≡ false
     → statusAt j (worldAfter w c .row) ≡ statusAt j (w .row)
 
--- ---- the counts
+-- ---- the counts and the lengths
 
 abbrev pub Counts : Type 0
 Counts =
     (w : World) (c : Call) → begins w c ≡ false
     → (worldAfter w c .hca .logs ≡ w .hca .logs) × (worldAfter w c .hca .«store_len» ≡ w .hca .«store_len»)
+
+abbrev pub Sizes : Type 0
+Sizes =
+    (w : World) (c : Call)
+    → (length (worldAfter w c .row) ≡ length (w .row)) × ((length (worldAfter w c .store) ≡ length (w .store)) × (length (worldAfter w c .room) ≡ length (w .room)))

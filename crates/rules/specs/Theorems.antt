@@ -2,7 +2,7 @@
 use mathlib.Core.Path.{_≡_, ap}
 use Prim.Native.Nat.{ℕ, suc}
 use Rattle.rules.specs.Book.{Book, Fed, numberOf, effectOf, byNumber, afterOf}
-use Rattle.rules.specs.Frames.{Refusals, Written, Copied, Records, Behind, Rooms, Rows, Counts}
+use Rattle.rules.specs.Frames.{Refusals, Written, Copied, Records, Behind, Rooms, Rows, Counts, Sizes}
 use Rattle.rules.specs.Demand2.{Statement as States}
 use Rattle.rules.specs.Demand3.{Zeroed, Statement as Serial}
 use Rattle.rules.specs.Proofs.Frame as frame
@@ -22,7 +22,7 @@ written = kept.written
 pub copied : Copied
 copied = kept.copied
 
--- and nothing else: no other record, no byte behind the records, no other slot's part of the room, no other slot, no count
+-- and nothing else: no other record, no byte behind the records, no other slot's part of the room, no other slot, no count, no length
 pub records : Records
 records = frame.records-framed
 
@@ -37,6 +37,9 @@ rows = kept.rows
 
 pub counts : Counts
 counts = kept.counts
+
+pub sizes : Sizes
+sizes = kept.sizes
 
 -- a queue pair's state moves only along permitted edges
 pub demand2 : States

@@ -184,7 +184,7 @@ step-judged : (w : World) (k : ℕ) → Judged w → Judged (stepOf w k .world)
 step-judged w k i = step-is w k (λ (s : Stepped). Judged (s .world)) (λ _. i) (λ q m s. burst-judged w k q m s i)
 
 reset-judged : (w : World) → resetEnds (resetOf w .answer) ≡ false → Judged w → Judged (resetOf w .world)
-reset-judged w = reset-is w (λ (r : Reset). resetEnds (r .answer) ≡ false → Judged w → Judged (r .world)) (λ _ _ i. i) (λ e. absurd (true≢false e))
+reset-judged w = reset-is w (λ (r : Reset). resetEnds (r .answer) ≡ false → Judged w → Judged (r .world)) (λ _ _ i. i) (λ _ e. absurd (true≢false e))
 
 call-judged : (w : World) (c : Call) → stops w c ≡ false → Judged w → Judged (worldAfter w c)
 call-judged w (commanding bytes mail) e i = command-judged w i bytes mail e

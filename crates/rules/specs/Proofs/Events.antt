@@ -166,7 +166,7 @@ engine-ok w n index psn code =
 
 -- a reset that is refused
 reset-ok : (w : World) → resetEnds (resetOf w .answer) ≡ false → Fine w (resetOf w .world) none
-reset-ok w = reset-is w (λ (r : Reset). resetEnds (r .answer) ≡ false → Fine w (r .world) none) (λ _ _. stays w) (λ i. absurd (true≢false i))
+reset-ok w = reset-is w (λ (r : Reset). resetEnds (r .answer) ≡ false → Fine w (r .world) none) (λ _ _. stays w) (λ _ i. absurd (true≢false i))
 
 pub call-ok : (w : World) (c : Call) → stops w c ≡ false → Fine w (worldAfter w c) (noteFor (noteOf (w .hca .logs) c (answerOf w c)))
 call-ok w (command bytes mail) i = command-ok w bytes mail i

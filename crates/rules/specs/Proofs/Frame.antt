@@ -53,7 +53,7 @@ collect-leaves w k out =
     collect-is w k out (λ (c : Collected). refusedCollect (c .answer) ≡ true → (c .world ≡ w) × (c .out ≡ out)) (λ _ _. (refl, refl)) (λ _ _. no-refusal)
 
 reset-leaves : (w : World) → refusedReset (resetOf w .answer) ≡ true → resetOf w .world ≡ w
-reset-leaves w = reset-is w (λ (r : Reset). refusedReset (r .answer) ≡ true → r .world ≡ w) (λ _ _. refl) no-refusal
+reset-leaves w = reset-is w (λ (r : Reset). refusedReset (r .answer) ≡ true → r .world ≡ w) (λ _ _. refl) (λ _. no-refusal)
 
 pub refusals : Refusals
 refusals w (command bytes mail) l e = (command-leaves w bytes mail e, refl)
@@ -77,7 +77,7 @@ collect-stores : (w : World) (k : ℕ) (out : List ℕ) → collectOf w k out .w
 collect-stores w k out = collect-is w k out (λ (c : Collected). c .world .store ≡ w .store) (λ _. refl) (λ _ _. refl)
 
 reset-stores : (w : World) → resetOf w .world .store ≡ w .store
-reset-stores w = reset-is w (λ (r : Reset). r .world .store ≡ w .store) (λ _. refl) refl
+reset-stores w = reset-is w (λ (r : Reset). r .world .store ≡ w .store) (λ _. refl) (λ _. refl)
 
 -- a step changes the record that its request writes, by one burst, and no other
 module _ (w : World) (k : ℕ) (X : Record) (valid : isRecord (w .hca .logs) X ≡ true) where

@@ -7,11 +7,15 @@ use native.Mathlib.Decide.{decLt}
 use native.Mathlib.Omega.{arith}
 use borrow.Author.Tests.{eq-eqb, ltb-false}
 use lib.Dec.{eqb}
-use lib.ListN.{length, getD, drop, set, replicate, length-replicate}
+use lib.ListN.{length, getD, drop, set, length-set, replicate, length-replicate}
 use lib.Seq.{getD-append-add, getD-drop, getD-set-other}
 use Rattle.words.specs.Choice.{pick}
-use Rattle.words.specs.Parts.{part, splice, length-part, splice-below, splice-above}
+use Rattle.words.specs.Parts.{part, splice, length-part, length-splice, splice-below, splice-above}
 use Rattle.context.specs.Layout.{recordOf, inUse}
+use Rattle.context.specs.Init.{initOf}
+use Rattle.context.specs.Counts.{init-fits}
+use Rattle.context.specs.declared.Init.the-variants as init
+use Rattle.context.specs.declared.Logs.{Logs}
 use Rattle.requests.specs.declared.Request.{Request}
 use Rattle.tables.specs.Records.{recordOf as touched, writesOf}
 use Rattle.tables.specs.Mailboxes.{needOf}
@@ -31,10 +35,10 @@ use Rattle.rules.specs.Steps.{Stepped, slotMoved, moved}
 use Rattle.rules.specs.Collections.{Collected}
 use Rattle.rules.specs.Resets.{Reset}
 use Rattle.rules.specs.Calls.{command, engineRequest, step, collection, resetting, submitted, resetEnds}
-use Rattle.rules.specs.Frames.{refusedStep, takes, Written, Copied, Behind, Rooms, Rows, Counts}
+use Rattle.rules.specs.Frames.{refusedStep, takes, Written, Copied, Behind, Rooms, Rows, Counts, Sizes}
 use Rattle.rules.specs.Proofs.System.{at}
-use Rattle.rules.specs.Proofs.View.{lookAt, look-valid, Sized, lent-sized, open-fits, Runs, running}
-use Rattle.rules.specs.Proofs.Moved.{own-record, read-copied, behind-kept, room-kept}
+use Rattle.rules.specs.Proofs.View.{lookAt, look-valid, Sized, sized, lent-sized, open-fits, Runs, running}
+use Rattle.rules.specs.Proofs.Moved.{own-record, read-copied, behind-kept, room-kept, store-length, room-length}
 use Rattle.rules.specs.Proofs.Submissions.{Taking, command-is, command-but-init, engine-is}
 use Rattle.rules.specs.Proofs.Outcomes.{Stepping, step-is, collect-is, reset-is}
 
@@ -73,6 +77,12 @@ module _ (w : World) (k : ℕ) (q : Request) (m : ℕ) (s : Stepping w k q m) wh
 
   moved-rooms : (i : ℕ) → ¬ (i / slotRoom ≡ k) → getD (moved w k q m .room) i 0 ≡ getD (w .room) i 0
   moved-rooms = room-kept w z fits k q m (s .now) (r .valid) (r .more)
+
+  moved-store : length (moved w k q m .store) ≡ length (w .store)
+  moved-store = store-length w z fits k q m (s .now) (r .valid) (r .more)
+
+  moved-room : length (moved w k q m .room) ≡ length (w .room)
+  moved-room = room-length w z fits k q m (s .now) (r .valid) (r .more)
 
 -- the request that runs in a slot is one
 same-running : (q r : Request) (m n : ℕ) → Running q m ≡ Running r n → (P : Request → ℕ → Type 0) → P r n → P q m
@@ -127,34 +137,35 @@ behind w (engineRequest n index psn code) i =
     engine-is w (λ (s : Submitted). BehindKept w i (s .world)) (λ _ _. refl) (λ _ _ _ _ _. refl) n index psn code
 behind w (step k) i = step-is w k (λ (s : Stepped). BehindKept w i (s .world)) (λ _ _. refl) (λ q m s h. moved-behind w k q m s i h)
 behind w (collection k out) i = collect-is w k out (λ (c : Collected). BehindKept w i (c .world)) (λ _ _. refl) (λ _ _ _. refl)
-behind w resetting i = reset-is w (λ (r : Reset). BehindKept w i (r .world)) (λ _ _. refl) (λ _. refl)
+behind w resetting i = reset-is w (λ (r : Reset). BehindKept w i (r .world)) (λ _ _. refl) (λ _ _. refl)
 
 -- ---- the room and the row
 
 not-same : (k j : ℕ) → eqb k j ≡ false → ¬ (j ≡ k)
 not-same k j e f = true≢false (sym (eq-eqb k j (sym f)) ∙ e)
 
--- an accepted request's mailbox bytes stay in its slot's part
-taken-rooms : (w : World) (q : Request) (mail : List ℕ) (k : ℕ) → Taking w q mail k
-    → (i : ℕ) → ¬ (i / slotRoom ≡ k) → getD (taken w q mail k .room) i 0 ≡ getD (w .room) i 0
-unfolding taken
-taken-rooms w q mail k t i n = side (decLt i (k * slotRoom))
-  where
-    z : Sized w
-    z = lent-sized w (t .lent)
+-- an accepted request's mailbox bytes fit, and stay in its slot's part
+module _ (w : World) (q : Request) (mail : List ℕ) (k : ℕ) (t : Taking w q mail k) where
+  front-long : length (part 0 (needOf q) mail) ≡ needOf q
+  front-long = length-part 0 (needOf q) mail (omega (arith, ltb-false (length mail) (needOf q) (t .enough)))
 
-    l : Lowest (w .row) k
-    l = lowest-free-is (w .row) k (t .lowest)
+  front-fits : k * slotRoom + length (part 0 (needOf q) mail) ≤ length (w .room)
+  front-fits =
+      let s : Sized w = lent-sized w (t .lent) in
+      let l : Lowest (w .row) k = lowest-free-is (w .row) k (t .lowest) in
+      omega (arith, front-long, need-small q, s .roomed, s .rowed, l .inside)
 
-    long : length (part 0 (needOf q) mail) ≡ needOf q
-    long = length-part 0 (needOf q) mail (omega (arith, ltb-false (length mail) (needOf q) (t .enough)))
+  taken-rooms : (i : ℕ) → ¬ (i / slotRoom ≡ k) → getD (taken w q mail k .room) i 0 ≡ getD (w .room) i 0
+  unfolding taken
+  taken-rooms i n = side (decLt i (k * slotRoom))
+    where
+      side : Dec (i < k * slotRoom) → getD (splice (k * slotRoom) (part 0 (needOf q) mail) (w .room)) i 0 ≡ getD (w .room) i 0
+      side (yes y) = splice-below (k * slotRoom) (part 0 (needOf q) mail) (w .room) front-fits i y
+      side (no y) = splice-above (k * slotRoom) (part 0 (needOf q) mail) (w .room) front-fits i (omega (arith, front-long, need-small q, n))
 
-    fits-room : k * slotRoom + length (part 0 (needOf q) mail) ≤ length (w .room)
-    fits-room = omega (arith, long, need-small q, z .roomed, z .rowed, l .inside)
-
-    side : Dec (i < k * slotRoom) → getD (splice (k * slotRoom) (part 0 (needOf q) mail) (w .room)) i 0 ≡ getD (w .room) i 0
-    side (yes y) = splice-below (k * slotRoom) (part 0 (needOf q) mail) (w .room) fits-room i y
-    side (no y) = splice-above (k * slotRoom) (part 0 (needOf q) mail) (w .room) fits-room i (omega (arith, long, need-small q, n))
+  taken-length : length (taken w q mail k .room) ≡ length (w .room)
+  unfolding taken
+  taken-length = length-splice (k * slotRoom) (part 0 (needOf q) mail) (w .room) front-fits
 
 abbrev RoomKept : World → ℕ → Submitted → Type 0
 RoomKept w i s = takes (submitted (s .answer)) (i / slotRoom) ≡ false → getD (s .world .room) i 0 ≡ getD (w .room) i 0
@@ -169,7 +180,7 @@ rooms w (engineRequest n index psn code) i e f =
 rooms w (step k) i e f =
     step-is w k (λ (s : Stepped). getD (s .world .room) i 0 ≡ getD (w .room) i 0) (λ _. refl) (λ q m s. moved-rooms w k q m s i (not-same k (i / slotRoom) f))
 rooms w (collection k out) i e f = collect-is w k out (λ (c : Collected). getD (c .world .room) i 0 ≡ getD (w .room) i 0) (λ _. refl) (λ _ _. refl)
-rooms w resetting i e f = reset-is w (λ (r : Reset). getD (r .world .room) i 0 ≡ getD (w .room) i 0) (λ _. refl) refl
+rooms w resetting i e f = reset-is w (λ (r : Reset). getD (r .world .room) i 0 ≡ getD (w .room) i 0) (λ _. refl) (λ _. refl)
 
 -- a row in which slot k was set
 set-other : (row : List Slot) (k j : ℕ) (s : Slot) → eqb k j ≡ false → statusAt j (set row k s) ≡ statusAt j row
@@ -192,7 +203,7 @@ rows w (collection k out) e j f g h =
     collect-is w k out (λ (c : Collected). statusAt j (c .world .row) ≡ statusAt j (w .row)) (λ _. refl)
     (λ q _. set-other (w .row) k j (freed (getD (w .row) k (slot Free))) h)
 rows w resetting e j f g h =
-    reset-is w (λ (r : Reset). resetEnds (r .answer) ≡ false → statusAt j (r .world .row) ≡ statusAt j (w .row)) (λ _ _. refl) (λ d. absurd (true≢false d)) e
+    reset-is w (λ (r : Reset). resetEnds (r .answer) ≡ false → statusAt j (r .world .row) ≡ statusAt j (w .row)) (λ _ _. refl) (λ _ d. absurd (true≢false d)) e
 
 -- ---- the counts
 
@@ -207,4 +218,32 @@ counts w (engineRequest n index psn code) e =
     engine-is w (λ (s : Submitted). CountsKept w (s .world)) (λ _. (refl, refl)) (λ _ _ _ _. (refl, refl)) n index psn code
 counts w (step k) e = step-is w k (λ (s : Stepped). CountsKept w (s .world)) (λ _. (refl, refl)) (λ _ _ _. (refl, refl))
 counts w (collection k out) e = collect-is w k out (λ (c : Collected). CountsKept w (c .world)) (λ _. (refl, refl)) (λ _ _. (refl, refl))
-counts w resetting e = reset-is w (λ (r : Reset). CountsKept w (r .world)) (λ _. (refl, refl)) (refl, refl)
+counts w resetting e = reset-is w (λ (r : Reset). CountsKept w (r .world)) (λ _. (refl, refl)) (λ _. (refl, refl))
+
+-- ---- the lengths
+
+abbrev SizesKept : World → World → Type 0
+SizesKept w u = (length (u .row) ≡ length (w .row)) × ((length (u .store) ≡ length (w .store)) × (length (u .room) ≡ length (w .room)))
+
+-- what an initialisation zeroes lies in the store
+zeroed-length : (mail store : List ℕ) (g : Logs) → initOf mail (length store) ≡ init.Layout g → length (splice 0 (replicate (inUse g) 0) store) ≡ length store
+zeroed-length mail store g e =
+    length-splice 0 (replicate (inUse g) 0) store (omega (arith, length-replicate {A = ℕ} (inUse g) 0, init-fits mail (length store) g e))
+
+pub sizes : Sizes
+unfolding taken closed initialised moved
+sizes w (command bytes mail) =
+    command-is w (λ (s : Submitted). SizesKept w (s .world)) (λ _. (refl, (refl, refl)))
+    (λ q m k t. (length-set (w .row) k (accepted (getD (w .row) k (slot Free)) q), (refl, taken-length w q m k t)))
+    (refl, (refl, refl)) (refl, (refl, refl)) bytes mail (λ g e. (refl, (zeroed-length mail (w .store) g e, refl)))
+sizes w (engineRequest n index psn code) =
+    engine-is w (λ (s : Submitted). SizesKept w (s .world)) (λ _. (refl, (refl, refl)))
+    (λ q m k t. (length-set (w .row) k (accepted (getD (w .row) k (slot Free)) q), (refl, taken-length w q m k t))) n index psn code
+sizes w (step k) =
+    step-is w k (λ (s : Stepped). SizesKept w (s .world)) (λ _. (refl, (refl, refl)))
+    (λ q m s. (length-set (w .row) k (slotMoved w k), (moved-store w k q m s, moved-room w k q m s)))
+sizes w (collection k out) =
+    collect-is w k out (λ (c : Collected). SizesKept w (c .world)) (λ _. (refl, (refl, refl)))
+    (λ _ _. (length-set (w .row) k (freed (getD (w .row) k (slot Free))), (refl, refl)))
+sizes w resetting =
+    reset-is w (λ (r : Reset). SizesKept w (r .world)) (λ _. (refl, (refl, refl))) (λ b. (sym (sized w b .rowed), (refl, refl)))

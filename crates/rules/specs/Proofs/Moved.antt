@@ -31,7 +31,7 @@ use Rattle.bursts.specs.Leaves.{length-writtenPart}
 use Rattle.bursts.specs.Bursts.{after, burst}
 use Rattle.bursts.specs.Copies.{copies, copy}
 use Rattle.bursts.specs.Table.{total-bursts, offset-burst, offset-small, offset-room, need-small, need-reader}
-use Rattle.bursts.specs.Store.{writeAt-apart, writeAt-record, copyAt-apart, copyAt-record}
+use Rattle.bursts.specs.Store.{length-writeAt, writeAt-apart, writeAt-record, length-copyAt, copyAt-apart, copyAt-record}
 use Rattle.slots.specs.Slots.{slot, advanced, advancedStatus}
 use Rattle.slots.specs.declared.Slot.{Slot}
 use Rattle.slots.specs.declared.Status.{Status}
@@ -343,6 +343,25 @@ module _ (w : World) (z : Sized w) (fits : inUse (w .hca .logs) ≤ length (w .s
       go : (b : Bool) → writesOf q ≡ b → getD (moved w k q m .room) i 0 ≡ getD (w .room) i 0
       go true wr = ap (λ (r : List ℕ). getD r i 0) (room-is wr)
       go false rd = ap (λ (r : List ℕ). getD r i 0) (room-copied rd) ∙ side (decLt i (k * slotRoom))
+
+  -- store and room keep their lengths
+  pub store-length : length (moved w k q m .store) ≡ length (w .store)
+  unfolding u
+  store-length = go (writesOf q) refl
+    where
+      go : (b : Bool) → writesOf q ≡ b → length (moved w k q m .store) ≡ length (w .store)
+      go true wr = ap length (store-is wr) ∙ length-writeAt q mail (start + 16 * j) (16 * j) (w .store) (omega (arith, record-fits, in-record))
+      go false rd = ap length (store-stays rd)
+
+  pub room-length : length (moved w k q m .room) ≡ length (w .room)
+  unfolding u
+  room-length = go (writesOf q) refl
+    where
+      go : (b : Bool) → writesOf q ≡ b → length (moved w k q m .room) ≡ length (w .room)
+      go true wr = ap length (room-is wr)
+      go false rd =
+          ap length (room-copied rd)
+          ∙ length-copyAt (start + 16 * j) (k * slotRoom + 16 * j) (w .store) (w .room) (omega (arith, record-fits, in-record)) (omega (arith, in-room, z .roomed, k8))
 
   by-kind : (b : Bool) → writesOf q ≡ b → Dec (m + 1 < totalOf q) → Fine w u nothing
   by-kind true wr (yes h) = writer-step wr h

@@ -89,6 +89,6 @@ module _ (w : World) (k : ℕ) (out : List ℕ) (P : Collected → Type 0) (refu
 -- ---- a reset
 
 pub reset-is : (w : World) (P : Reset → Type 0) → ((c : Refusal) → P (resetted (reset.Refused c) w))
-    → P (resetted reset.Done (world (hcaOf false (w .hca .logs) (w .hca .«store_len»)) emptyRow (w .store) (w .room))) → P (resetOf w)
+    → (badRow w ≡ false → P (resetted reset.Done (world (hcaOf false (w .hca .logs) (w .hca .«store_len»)) emptyRow (w .store) (w .room)))) → P (resetOf w)
 unfolding resetOf
-reset-is w P refusals done = by-pick P (badRow w) _ _ (λ _. refusals cause.BadLength) (λ _. done)
+reset-is w P refusals done = by-pick P (badRow w) _ _ (λ _. refusals cause.BadLength) done
