@@ -7,6 +7,7 @@ use Rattle.requests.specs.declared.Request.{Request}
 use Rattle.burst_table.specs.Bursts.{totalOf}
 use Rattle.tables.specs.Records.{isCommand}
 use Rattle.slots.specs.declared.Slot.{Slot}
+use Rattle.slots.specs.declared.Advanced.{Advanced}
 use Rattle.slots.specs.declared.Status.{Status}
 use Rattle.slots.specs.declared.Status.the-variants.{Free, Running, Finished}
 
@@ -38,6 +39,10 @@ leftStatus (Finished q m) = totalOf q - m
 
 abbrev pub leftOf : Slot → ℕ
 leftOf s = leftStatus (s .status)
+
+-- what a step hands back
+abbrev pub advancedSlot : Slot → Advanced
+advancedSlot s = record { slot = advanced s; left = leftOf (advanced s) }
 
 abbrev pub occupiedStatus : Status → Bool
 occupiedStatus Free = false

@@ -3,7 +3,7 @@ use requests::Request;
 ghost use mathlib.Core.Path.{_≡_};
 ghost use Prim.Native.Nat.{_-_};
 ghost use Rattle.burst_table.specs.Bursts.{totalOf};
-ghost use Rattle.slots.specs.Slots.{accepted, freed, advancedStatus, advanced, leftStatus, leftOf, isOccupied, hasCommand};
+ghost use Rattle.slots.specs.Slots.{accepted, freed, advancedStatus, advancedSlot, leftStatus, leftOf, isOccupied, hasCommand};
 
 // A slot is free, running with its request, or finished with its request; the number is that of the
 // bursts moved. The bytes of the request's mailbox and answer stay in the room.
@@ -15,6 +15,13 @@ pub enum Status {
 
 pub struct Slot {
     pub status: Status,
+}
+
+// What a step makes of its slot: the slot handed back, and the bursts that its request has still to
+// move.
+pub struct Advanced {
+    pub slot: Slot,
+    pub left: u8,
 }
 
 // The bursts that a request with this many moved has still to move.
@@ -68,12 +75,16 @@ impl Slot {
         }
     }
 
-    pub fn advance(self) -> Slot
-        ensures { λ r. ⌜ r ≡ advanced self ⌝ }
+    // One burst more, with the bursts then left.
+    pub fn advance(self) -> Advanced
+        ensures { λ r. ⌜ r ≡ advancedSlot self ⌝ }
     {
         let status = self.status;
-        Slot {
-            status: status.advance(),
+        let next = status.advance();
+        let left = next.bursts_left();
+        Advanced {
+            slot: Slot { status: next },
+            left: left,
         }
     }
 
