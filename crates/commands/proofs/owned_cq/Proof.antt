@@ -1,5 +1,7 @@
 -- `commands::owned_cq` meets its contract.
+use mathlib.Core.Path.{sym, _∙_, ap}
 use borrow.Author.Needs.{needs}
+use Rattle.commands.specs.Commands.{onCq}
 use Rattle.commands.proofs.owned_cq.Statement.{statement}
 use Rattle.commands.proofs.owned_cq.Tie as tie
 
@@ -13,10 +15,10 @@ enum-told : tie.Need-enum-told
 enum-told c = search needs
 
 returns : tie.Need-returns
-returns c = rw (← c .before .before .before .cq-number .ensures, c .before .m .given .1)
+returns c = ap onCq (sym (c .before .m .given .1) ∙ c .before .before .before .cq-number .ensures)
 
 returns-2 : tie.Need-returns-2
-returns-2 c = rw (← c .before .before .cq-number .ensures, c .enum-told .given .1)
+returns-2 c = ap onCq (sym (c .enum-told .given .1) ∙ c .before .before .cq-number .ensures)
 
 pub owned-cq-spec : {M : Type 1} → statement M
 owned-cq-spec = tie.close (tie.spec cq-number-requires enum-known-m enum-told returns returns-2)

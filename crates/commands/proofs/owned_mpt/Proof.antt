@@ -1,5 +1,7 @@
 -- `commands::owned_mpt` meets its contract.
+use mathlib.Core.Path.{sym, _∙_, ap}
 use borrow.Author.Needs.{needs}
+use Rattle.commands.specs.Commands.{onMpt}
 use Rattle.commands.proofs.owned_mpt.Statement.{statement}
 use Rattle.commands.proofs.owned_mpt.Tie as tie
 
@@ -13,10 +15,10 @@ enum-told : tie.Need-enum-told
 enum-told c = search needs
 
 returns : tie.Need-returns
-returns c = rw (← c .before .before .before .mpt-number .ensures, c .before .m .given .1)
+returns c = ap onMpt (sym (c .before .m .given .1) ∙ c .before .before .before .mpt-number .ensures)
 
 returns-2 : tie.Need-returns-2
-returns-2 c = rw (← c .before .before .mpt-number .ensures, c .enum-told .given .1)
+returns-2 c = ap onMpt (sym (c .enum-told .given .1) ∙ c .before .before .mpt-number .ensures)
 
 pub owned-mpt-spec : {M : Type 1} → statement M
 owned-mpt-spec = tie.close (tie.spec mpt-number-requires enum-known-m enum-told returns returns-2)
