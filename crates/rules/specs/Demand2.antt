@@ -1,12 +1,14 @@
 -- DEMAND 2, the edges: a queue pair's state moves only along permitted edges.
 --
--- What is claimed, and of what: after every initialisation and every list of calls, of the next call, whatever it is but another
--- initialisation: the state code of every queue pair stays, or the call is the first step of a running request on that queue pair,
--- and the state moves along an edge that is permitted, from the state code and for the service type that the record has just before
--- the step, for that request.
+-- What is claimed, and of what: after every initialisation and every list of calls, up to the next initialisation or reset that
+-- answers 0, of the next call, whatever it is but an initialisation: the state code of every queue pair stays, or the call is the
+-- first step of a running request on that queue pair, and the state moves along an edge that is permitted, from the state code and
+-- for the service type that the record has just before the step, for that request.
 --
--- What is not claimed: that a state moves; that an initialisation keeps one (it makes all records zero: `Zeroed` in Demand3); and
--- nothing of worlds that no list of calls leads to, since a slot that is handed in may hold a write that its record does not permit.
+-- What is not claimed: that a state moves; that an initialisation keeps one (it makes all records zero: `Zeroed` in Demand3);
+-- anything of calls between a reset that answers 0 and the next initialisation (no slot is occupied then, and `Elsewhere` in Frames
+-- says that the store stays); and anything of worlds that no list of calls leads to, since a slot that is handed in may hold a write
+-- that its record does not permit.
 use mathlib.Core.Path.{_≡_}
 use mathlib.Core.Bool.{true, false}
 use mathlib.Core.List.{List, []}

@@ -3,21 +3,26 @@
 -- What is claimed, for every world and every call:
 -- * `Refusals`: a refusal changes nothing, neither state, row, store and room nor the buffer.
 -- * `Written`, `Copied`: a step that is not refused makes exactly the next burst of its request, a write in its record by the byte
---   rule, a read as a copy in the slot's part of the room.
--- * `Records`, `Behind`: nothing else in the store. Of every record, a call other than an initialisation makes nothing, or the burst
---   of a running request that writes it; bytes behind the records in use never change, by an initialisation neither.
--- * `Rooms`, `Rows`: a call changes no byte of the room but in the part of the slot that it takes or steps, and no slot but the one
---   that it takes, steps or collects; a reset empties all.
--- * `Counts`: no call but an initialisation changes the counts or the length that it remembered.
--- * `Sizes`: row, store and room keep their lengths.
+--   rule, leaving the room, a read as a copy in the slot's part of the room, leaving the store.
+-- * `Records`, `Elsewhere`, `Behind`: nothing else in the store. Of every record, a call other than an initialisation makes nothing,
+--   or the burst of a running request that writes it; no byte outside that burst changes; and bytes behind the records in use never
+--   change, by an initialisation neither.
+-- * `Taken`, `Rooms`: a submission that is accepted puts the needed front of its mailbox at the front of its slot's part of the room
+--   and leaves the rest of the part; no call changes a byte in the part of a slot that it neither takes nor steps.
+-- * `Rows`, `Emptied`: a call changes no slot but the one that it takes, steps or collects; a reset that answers 0 empties all, and
+--   closes.
+-- * `Opens`, `Counts`: a call that is not done at once, as INIT_HCA, CLOSE_HCA, NOP and reset are, leaves the state; and only an
+--   initialisation changes the counts and the length that it remembers.
+-- * `Buffers`, `Sizes`: a collection changes no byte of the buffer behind its answer; row, store, room and buffer keep their lengths.
 --
 -- What is not claimed here: which calls are refused, and with which number; that is what the rules say.
 use mathlib.Core.Path.{_≡_}
 use mathlib.Core.Bool.{Bool, true, false}
 use mathlib.Core.List.{List}
-use Prim.Native.Nat.{ℕ, _/_, _≤_, _<_}
+use Prim.Native.Nat.{ℕ, _+_, _/_, _≤_, _<_}
 use lib.Dec.{eqb}
 use lib.ListN.{length, getD}
+use Rattle.words.specs.Parts.{splice}
 use Rattle.context.specs.Layout.{isRecord, recordOf, recordSize, inUse}
 use Rattle.context.specs.declared.Record.{Record}
 use Rattle.requests.specs.declared.Request.{Request}
@@ -26,7 +31,7 @@ use Rattle.burst_table.specs.Bursts.{burstsOf, totalOf}
 use Rattle.byte_rule.specs.Bytes.{byteOf}
 use Rattle.bursts.specs.Bursts.{burst}
 use Rattle.bursts.specs.Copies.{copy}
-use Rattle.slots.specs.declared.Status.the-variants.{Running}
+use Rattle.slots.specs.declared.Status.the-variants.{Free, Running}
 use Rattle.rules.specs.declared.SubmitAnswer.{SubmitAnswer}
 use Rattle.rules.specs.declared.SubmitAnswer.the-variants as submit
 use Rattle.rules.specs.declared.StepAnswer.{StepAnswer}
@@ -36,8 +41,10 @@ use Rattle.rules.specs.declared.CollectAnswer.the-variants as collecting
 use Rattle.rules.specs.declared.ResetAnswer.{ResetAnswer}
 use Rattle.rules.specs.declared.ResetAnswer.the-variants as resets
 use Rattle.rules.specs.World.{World, slotRoom, roomOf, frontOf, statusAt}
-use Rattle.rules.specs.Steps.{stepOf}
-use Rattle.rules.specs.Calls.{Call, command, engineRequest, step, collection, resetting, Answer, submitted, stepped, collected, resetDone, answerOf, worldAfter, begins, stops}
+use Rattle.rules.specs.Steps.{burstAt, stepOf}
+use Rattle.rules.specs.Collections.{collectOf}
+use Rattle.rules.specs.Book.{onRecord}
+use Rattle.rules.specs.Calls.{Call, command, engineRequest, step, collection, resetting, Answer, submitted, stepped, collected, resetDone, accepted, answerOf, worldAfter, noteOf, begins}
 
 -- ---- a refusal
 
@@ -89,15 +96,17 @@ Refusals = (w : World) (c : Call) (l : List ℕ) → refusedBy (answerOf w c) �
 abbrev pub Written : Type 0
 Written =
     (w : World) (k : ℕ) (q : Request) (m : ℕ) → statusAt k (w .row) ≡ Running q m → refusedStep (stepOf w k .answer) ≡ false → writesOf q ≡ true
-    → recordOf (w .hca .logs) (touched q) (stepOf w k .world .store)
-    ≡ burst (byteOf q (frontOf k q (w .room))) (getD (burstsOf q) m 0) (recordOf (w .hca .logs) (touched q) (w .store))
+    → (recordOf (w .hca .logs) (touched q) (stepOf w k .world .store)
+    ≡ burst (byteOf q (frontOf k q (w .room))) (getD (burstsOf q) m 0) (recordOf (w .hca .logs) (touched q) (w .store)))
+    × (stepOf w k .world .room ≡ w .room)
 
 -- "A read burst is copied to the offset in that part which it has in the record."
 abbrev pub Copied : Type 0
 Copied =
     (w : World) (k : ℕ) (q : Request) (m : ℕ) → statusAt k (w .row) ≡ Running q m → refusedStep (stepOf w k .answer) ≡ false → writesOf q ≡ false
-    → roomOf k (stepOf w k .world .room)
-    ≡ copy (getD (burstsOf q) m 0) (recordOf (w .hca .logs) (touched q) (w .store)) (roomOf k (w .room))
+    → (roomOf k (stepOf w k .world .room)
+    ≡ copy (getD (burstsOf q) m 0) (recordOf (w .hca .logs) (touched q) (w .store)) (roomOf k (w .room)))
+    × (stepOf w k .world .store ≡ w .store)
 
 -- What a call makes of a record: nothing, or, where it steps a slot whose running request writes that record, exactly the next burst
 -- of it by the byte rule.
@@ -112,12 +121,27 @@ Records =
     (w : World) (c : Call) → begins w c ≡ false → (X : Record) → isRecord (w .hca .logs) X ≡ true
     → Change w c X (recordOf (w .hca .logs) X (w .store)) (recordOf (w .hca .logs) X (worldAfter w c .store))
 
--- "nothing else in the store"; INIT_HCA "zeroes the bytes in use, leaves the others": those behind the records in use
+-- "nothing else in the store": byte i lies in the burst that a step writes
+pub data InBurst (w : World) (i : ℕ) : Call → Type 0 where
+  inBurst : (k : ℕ) (q : Request) (m : ℕ) → statusAt k (w .row) ≡ Running q m → writesOf q ≡ true → burstAt w q m ≤ i → i < burstAt w q m + 16
+      → InBurst w i (step k)
+
+abbrev pub Elsewhere : Type 0
+Elsewhere = (w : World) (c : Call) → begins w c ≡ false → (i : ℕ) → ¬ InBurst w i c → getD (worldAfter w c .store) i 0 ≡ getD (w .store) i 0
+
+-- INIT_HCA "zeroes the bytes in use, leaves the others": those behind the records in use
 abbrev pub Behind : Type 0
 Behind =
     (w : World) (c : Call) (i : ℕ) → inUse (worldAfter w c .hca .logs) ≤ i → getD (worldAfter w c .store) i 0 ≡ getD (w .store) i 0
 
--- ---- the other slots
+-- ---- the slots and the room
+
+-- "puts the needed mailbox bytes at the front of the slot's part of the room, and takes the lowest free slot": q, fed with the needed
+-- front of the mailbox, was accepted into slot k
+abbrev pub Taken : Type 0
+Taken =
+    (w : World) (c : Call) (q : Request) (front : List ℕ) (k : ℕ) → noteOf (w .hca .logs) c (answerOf w c) ≡ accepted (onRecord q front) k
+    → (statusAt k (worldAfter w c .row) ≡ Running q 0) × (roomOf k (worldAfter w c .room) ≡ splice 0 front (roomOf k (w .room)))
 
 -- the slot that a submission takes
 abbrev pub takes : Answer → ℕ → Bool
@@ -150,12 +174,39 @@ Rooms =
     (w : World) (c : Call) (i : ℕ) → takes (answerOf w c) (i / slotRoom) ≡ false → steps c (i / slotRoom) ≡ false
     → getD (worldAfter w c .room) i 0 ≡ getD (w .room) i 0
 
+-- a reset that answers 0
+abbrev pub empties : Answer → Bool
+empties (submitted a) = false
+empties (stepped a) = false
+empties (collected a out) = false
+empties (resetDone resets.Done) = true
+empties (resetDone (resets.Refused c)) = false
+
 abbrev pub Rows : Type 0
 Rows =
-    (w : World) (c : Call) → stops w c ≡ false → (j : ℕ) → takes (answerOf w c) j ≡ false → steps c j ≡ false → collects c j ≡ false
+    (w : World) (c : Call) (j : ℕ) → empties (answerOf w c) ≡ false → takes (answerOf w c) j ≡ false → steps c j ≡ false → collects c j ≡ false
     → statusAt j (worldAfter w c .row) ≡ statusAt j (w .row)
 
--- ---- the counts and the lengths
+-- "empties all slots and closes"
+abbrev pub Emptied : Type 0
+Emptied =
+    (w : World) (c : Call) → empties (answerOf w c) ≡ true
+    → ((j : ℕ) → statusAt j (worldAfter w c .row) ≡ Free) × (worldAfter w c .hca .«open» ≡ false)
+
+-- ---- the state, and the lengths
+
+-- a submission or a reset that is done at once
+abbrev pub atOnce : Answer → Bool
+atOnce (submitted submit.Done) = true
+atOnce (submitted (submit.Accepted k)) = false
+atOnce (submitted (submit.Refused c)) = false
+atOnce (stepped a) = false
+atOnce (collected a out) = false
+atOnce (resetDone resets.Done) = true
+atOnce (resetDone (resets.Refused c)) = false
+
+abbrev pub Opens : Type 0
+Opens = (w : World) (c : Call) → atOnce (answerOf w c) ≡ false → worldAfter w c .hca ≡ w .hca
 
 abbrev pub Counts : Type 0
 Counts =
@@ -166,3 +217,15 @@ abbrev pub Sizes : Type 0
 Sizes =
     (w : World) (c : Call)
     → (length (worldAfter w c .row) ≡ length (w .row)) × ((length (worldAfter w c .store) ≡ length (w .store)) × (length (worldAfter w c .room) ≡ length (w .room)))
+
+-- how many bytes of the buffer an answer has
+abbrev pub answerBytes : CollectAnswer → ℕ
+answerBytes (collecting.Collected n) = n
+answerBytes (collecting.Refused c) = 0
+
+-- "writes the answer at the front of the lent buffer"
+abbrev pub Buffers : Type 0
+Buffers =
+    (w : World) (k : ℕ) (out : List ℕ)
+    → (length (collectOf w k out .out) ≡ length out)
+    × ((i : ℕ) → answerBytes (collectOf w k out .answer) ≤ i → getD (collectOf w k out .out) i 0 ≡ getD out i 0)

@@ -2,7 +2,7 @@
 use mathlib.Core.Path.{_≡_, ap}
 use Prim.Native.Nat.{ℕ, suc}
 use Rattle.rules.specs.Book.{Book, Fed, numberOf, effectOf, byNumber, afterOf}
-use Rattle.rules.specs.Frames.{Refusals, Written, Copied, Records, Behind, Rooms, Rows, Counts, Sizes}
+use Rattle.rules.specs.Frames.{Refusals, Written, Copied, Records, Elsewhere, Behind, Taken, Rooms, Rows, Emptied, Opens, Counts, Buffers, Sizes}
 use Rattle.rules.specs.Demand2.{Statement as States}
 use Rattle.rules.specs.Demand3.{Zeroed, Statement as Serial}
 use Rattle.rules.specs.Proofs.Frame as frame
@@ -22,12 +22,19 @@ written = kept.written
 pub copied : Copied
 copied = kept.copied
 
--- and nothing else: no other record, no byte behind the records, no other slot's part of the room, no other slot, no count, no length
+-- and nothing else in the store: no other record, no byte outside the burst, none behind the records
 pub records : Records
 records = frame.records-framed
 
+pub elsewhere : Elsewhere
+elsewhere = kept.elsewhere
+
 pub behind : Behind
 behind = kept.behind
+
+-- an accepted submission takes its slot and fills the front of its part of the room; no other part and no other slot changes
+pub taken : Taken
+taken = kept.takings
 
 pub rooms : Rooms
 rooms = kept.rooms
@@ -35,8 +42,18 @@ rooms = kept.rooms
 pub rows : Rows
 rows = kept.rows
 
+pub emptied : Emptied
+emptied = kept.emptied
+
+-- the state, the buffer and the lengths
+pub opens : Opens
+opens = kept.opens
+
 pub counts : Counts
 counts = kept.counts
+
+pub buffers : Buffers
+buffers = kept.buffers
 
 pub sizes : Sizes
 sizes = kept.sizes

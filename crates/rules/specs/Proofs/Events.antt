@@ -35,7 +35,7 @@ use Rattle.rules.specs.Steps.{Stepped, moved, stepOf}
 use Rattle.rules.specs.Collections.{Collected, answerAt, collectOf}
 use Rattle.rules.specs.Resets.{Reset, resetOf}
 use Rattle.rules.specs.Book.{Fed, onRecord, closeHca, nop}
-use Rattle.rules.specs.Calls.{Call, command, engineRequest, step, collection, resetting, answerOf, worldAfter, commandFound, engineFound, requestNote, commandNote, engineNote, collectNote, noteOf, isDone, isInit, initialises, resetEnds, stops}
+use Rattle.rules.specs.Calls.{Call, Note, nothing, command, engineRequest, step, collection, resetting, answerOf, worldAfter, commandFound, engineFound, requestNote, commandNote, engineNote, collectNote, noteOf, isDone, isInit, initialises, resetEnds, stops}
 use Rattle.rules.specs.Proofs.System.{Place, gate, at, gateBytes, gatedBy, Sees, Writes, eff, Left}
 use Rattle.rules.specs.Proofs.View.{lookAt, slotView, slotAt, Fine, Sized, lent-sized, open-fits, Runs, running, look-same, others, in-row}
 use Rattle.rules.specs.Proofs.Admitted.{noteFor, stays, Seen, seen-runs, admit-ok}
@@ -44,14 +44,14 @@ use Rattle.rules.specs.Proofs.Outcomes.{Stepping, Collecting, freedAt, s
 use Rattle.rules.specs.Proofs.Moved.{moved-ok}
 
 -- a refusal that is not because of the record's state is not noted
-quiet : (mail : List ℕ) (f : CommandFound) (c : Refusal) → forState c ≡ false → none ≡ noteFor (commandNote mail f (submit.Refused c))
+pub quiet : (mail : List ℕ) (f : CommandFound) (c : Refusal) → forState c ≡ false → nothing ≡ commandNote mail f (submit.Refused c)
 quiet mail found.InitHca c e = refl
 quiet mail found.CloseHca c e = refl
 quiet mail found.Nop c e = refl
 quiet mail (found.OnRecord d) c e = rw e
 quiet mail found.Wrong c e = refl
 
-engine-quiet : (f : EngineFound) (c : Refusal) → forState c ≡ false → none ≡ noteFor (engineNote f (submit.Refused c))
+pub engine-quiet : (f : EngineFound) (c : Refusal) → forState c ≡ false → nothing ≡ engineNote f (submit.Refused c)
 engine-quiet (asked′.Asked e) c h = rw h
 engine-quiet asked′.Wrong c h = refl
 
@@ -74,16 +74,16 @@ module _ (w : World) (k : ℕ) (out : List ℕ) (q : Request) (c : Collecting w 
   k8 : k < 8
   k8 = in-row w sized k (λ f. let g : Finished q (c .moves) ≡ Free = sym (c .now) ∙ f in let x : _≡_ {A = ℕ} 0 1 = cc in omega arith)
 
-  long : length (answerAt w k q) ≡ answerSize q
+  pub answer-long : length (answerAt w k q) ≡ answerSize q
   unfolding answerAt roomOf
-  long = length-answer q (part (k * slotRoom) slotRoom (w .room)) (omega (arith, length-part (k * slotRoom) slotRoom (w .room) (omega (arith, sized .roomed, k8))))
+  answer-long = length-answer q (part (k * slotRoom) slotRoom (w .room)) (omega (arith, length-part (k * slotRoom) slotRoom (w .room) (omega (arith, sized .roomed, k8))))
 
   -- the front of the buffer is the answer
   wrote : take (answerSize q) (splice 0 (answerAt w k q) out) ≡ answerAt w k q
   unfolding part
   wrote =
-      ap (λ (n : ℕ). take n (splice 0 (answerAt w k q) out)) (sym long)
-      ∙ part-splice 0 (answerAt w k q) out (omega (arith, long, ltb-false (length out) (answerSize q) (c .enough)))
+      ap (λ (n : ℕ). take n (splice 0 (answerAt w k q) out)) (sym answer-long)
+      ∙ part-splice 0 (answerAt w k q) out (omega (arith, answer-long, ltb-false (length out) (answerSize q) (c .enough)))
 
   freed-ok : Fine w (freedAt w k) (noteFor (collectNote k (splice 0 (answerAt w k q) out) (collect.Collected (answerSize q))))
   unfolding answerAt statusAt
@@ -152,7 +152,7 @@ unfolding initialises initialised
 command-ok w bytes mail =
     command-cases w mail
     (λ (f : CommandFound) (s : Submitted). pick (isInit f) (isDone (s .answer)) false ≡ false → Fine w (s .world) (noteFor (commandNote mail f (s .answer))))
-    (λ f c e _. subst (Fine w w) (quiet mail f c e) (stays w))
+    (λ f c e _. subst (λ (n : Note). Fine w w (noteFor n)) (quiet mail f c e) (stays w))
     (λ c a _. asking-ok w (request.Command c) mail a)
     (λ o n _. closed-ok w o n) (λ _. nop-ok w) (λ g _ _ _ e. absurd (true≢false e)) bytes
 
@@ -160,7 +160,7 @@ engine-ok : (w : World) (n index psn code : ℕ)
     → Fine w (submitEngine w n index psn code .world) (noteFor (engineNote (engineFound (w .hca .logs) n index psn code) (submitEngine w n index psn code .answer)))
 engine-ok w n index psn code =
     engine-cases w (λ (f : EngineFound) (s : Submitted). Fine w (s .world) (noteFor (engineNote f (s .answer))))
-    (λ f c e. subst (Fine w w) (engine-quiet f c e) (stays w)) (λ e a. asking-ok w (request.Engine e) [] a) n index psn code
+    (λ f c e. subst (λ (n : Note). Fine w w (noteFor n)) (engine-quiet f c e) (stays w)) (λ e a. asking-ok w (request.Engine e) [] a) n index psn code
 
 -- ---- every call
 

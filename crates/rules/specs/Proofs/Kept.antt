@@ -1,46 +1,61 @@
--- The rest of the frame: the burst that a step makes, and what every call leaves of the store, the room, the row and the counts.
+-- The frame is proved, but for refusals and records (Frame): the burst that a step makes, the request that a submission takes, and
+-- what every call leaves of the store, the room, the row, the state and the buffer.
 use mathlib.Core.Path.{_≡_, refl, sym, _∙_, ap}
-use mathlib.Core.Bool.{Bool, true, false, true≢false}
-use mathlib.Core.List.{List, _++_}
+use mathlib.Core.Bool.{Bool, true, false, true≢false, false≢true}
+use mathlib.Core.List.{List, [], _++_}
+use mathlib.Core.Logic.{_⊎_, inl, inr}
 use Prim.Native.Nat.{ℕ, _+_, _-_, _*_, _/_, _≤_, _<_}
+use native.Mathlib.Nat.{add-zero}
 use native.Mathlib.Decide.{decLt}
 use native.Mathlib.Omega.{arith}
 use borrow.Author.Tests.{eq-eqb, ltb-false}
 use lib.Dec.{eqb}
 use lib.ListN.{length, getD, drop, set, length-set, replicate, length-replicate}
-use lib.Seq.{getD-append-add, getD-drop, getD-set-other}
-use Rattle.words.specs.Choice.{pick}
-use Rattle.words.specs.Parts.{part, splice, length-part, length-splice, splice-below, splice-above}
+use lib.Seq.{getD-append-add, getD-drop, getD-set-same, getD-set-other}
+use Rattle.words.specs.Choice.{pick, by-pick}
+use Rattle.words.specs.Parts.{part, splice, length-part, length-splice, splice-below, splice-above, splice-inside}
 use Rattle.context.specs.Layout.{recordOf, inUse}
 use Rattle.context.specs.Init.{initOf}
 use Rattle.context.specs.Counts.{init-fits}
 use Rattle.context.specs.declared.Init.the-variants as init
 use Rattle.context.specs.declared.Logs.{Logs}
 use Rattle.requests.specs.declared.Request.{Request}
+use Rattle.requests.specs.declared.Request.the-variants as request
+use Rattle.commands.specs.declared.CommandFound.{CommandFound}
+use Rattle.engines.specs.declared.EngineFound.{EngineFound}
 use Rattle.tables.specs.Records.{recordOf as touched, writesOf}
 use Rattle.tables.specs.Mailboxes.{needOf}
 use Rattle.burst_table.specs.Bursts.{burstsOf}
+use Rattle.answers.specs.Answers.{answerSize}
 use Rattle.byte_rule.specs.Bytes.{byteOf}
 use Rattle.bursts.specs.Bursts.{burst}
 use Rattle.bursts.specs.Copies.{copy}
 use Rattle.bursts.specs.Table.{need-small}
 use Rattle.slots.specs.Slots.{slot, accepted, freed}
-use Rattle.rows.specs.Laws.{Lowest, lowest-free-is}
+use Rattle.rows.specs.Rows.{anySlot, emptyRow}
+use Rattle.rows.specs.Laws.{Lowest, lowest-free-is, none-occupied}
 use Rattle.slots.specs.declared.Slot.{Slot}
 use Rattle.slots.specs.declared.Status.the-variants.{Free, Running}
-use Rattle.rules.specs.World.{World, slotRoom, roomOf, frontOf, statusAt}
-use Rattle.rules.specs.Admission.{Submitted, taken}
+use Rattle.rules.specs.declared.Refusal.{Refusal}
+use Rattle.rules.specs.declared.SubmitAnswer.the-variants as submit
+use Rattle.rules.specs.declared.CollectAnswer.{CollectAnswer}
+use Rattle.rules.specs.declared.CollectAnswer.the-variants as collect
+use Rattle.rules.specs.Numbers.{forState}
+use Rattle.rules.specs.World.{World, slotRoom, roomOf, frontOf, statusAt, badLent}
+use Rattle.rules.specs.Admission.{Submitted, taken, admit}
 use Rattle.rules.specs.Commands.{initialised, closed}
-use Rattle.rules.specs.Steps.{Stepped, slotMoved, moved}
-use Rattle.rules.specs.Collections.{Collected}
+use Rattle.rules.specs.Steps.{Stepped, burstAt, slotMoved, moved, stepOf}
+use Rattle.rules.specs.Collections.{Collected, answerAt, collectOf}
 use Rattle.rules.specs.Resets.{Reset}
-use Rattle.rules.specs.Calls.{command, engineRequest, step, collection, resetting, submitted, resetEnds}
-use Rattle.rules.specs.Frames.{refusedStep, takes, Written, Copied, Behind, Rooms, Rows, Counts, Sizes}
+use Rattle.rules.specs.Book.{Fed, onRecord, closeHca, nop}
+use Rattle.rules.specs.Calls.{Note, nothing, accepted as noted, finished, command, engineRequest, step, collection, resetting, submitted, resetDone, requestNote, commandNote, engineNote, collectNote}
+use Rattle.rules.specs.Frames.{refusedStep, takes, empties, atOnce, answerBytes, inBurst, Written, Copied, Elsewhere, Behind, Taken, Rooms, Rows, Emptied, Opens, Counts, Sizes, Buffers}
 use Rattle.rules.specs.Proofs.System.{at}
 use Rattle.rules.specs.Proofs.View.{lookAt, look-valid, Sized, sized, lent-sized, open-fits, Runs, running}
-use Rattle.rules.specs.Proofs.Moved.{own-record, read-copied, behind-kept, room-kept, store-length, room-length}
-use Rattle.rules.specs.Proofs.Submissions.{Taking, command-is, command-but-init, engine-is}
+use Rattle.rules.specs.Proofs.Moved.{own-record, read-copied, write-room, read-store, outside-kept, in-use, room-kept, store-length, room-length}
+use Rattle.rules.specs.Proofs.Submissions.{Taking, admit-is, command-cases, engine-cases, command-is, command-but-init, engine-is}
 use Rattle.rules.specs.Proofs.Outcomes.{Stepping, step-is, collect-is, reset-is}
+use Rattle.rules.specs.Proofs.Events.{quiet, engine-quiet, answer-long}
 
 -- ---- the burst that a step makes
 
@@ -72,8 +87,17 @@ module _ (w : World) (k : ℕ) (q : Request) (m : ℕ) (s : Stepping w k q m) wh
       read-copied w z fits k q m (s .now) (r .valid) (r .more) e
       ∙ ap (λ (c : List ℕ). copy (getD (burstsOf q) m 0) c (roomOf k (w .room))) was
 
+  moved-outside : (i : ℕ) → (writesOf q ≡ true → (i < burstAt w q m) ⊎ (burstAt w q m + 16 ≤ i)) → getD (moved w k q m .store) i 0 ≡ getD (w .store) i 0
+  moved-outside = outside-kept w z fits k q m (s .now) (r .valid) (r .more)
+
   moved-behind : (i : ℕ) → inUse (w .hca .logs) ≤ i → getD (moved w k q m .store) i 0 ≡ getD (w .store) i 0
-  moved-behind = behind-kept w z fits k q m (s .now) (r .valid) (r .more)
+  moved-behind i h = moved-outside i (λ _. inr (omega (arith, in-use w z fits k q m (s .now) (r .valid) (r .more))))
+
+  moved-leaves-room : writesOf q ≡ true → moved w k q m .room ≡ w .room
+  moved-leaves-room = write-room w z fits k q m (s .now) (r .valid) (r .more)
+
+  moved-leaves-store : writesOf q ≡ false → moved w k q m .store ≡ w .store
+  moved-leaves-store = read-store w z fits k q m (s .now) (r .valid) (r .more)
 
   moved-rooms : (i : ℕ) → ¬ (i / slotRoom ≡ k) → getD (moved w k q m .room) i 0 ≡ getD (w .room) i 0
   moved-rooms = room-kept w z fits k q m (s .now) (r .valid) (r .more)
@@ -88,31 +112,47 @@ module _ (w : World) (k : ℕ) (q : Request) (m : ℕ) (s : Stepping w k q m) wh
 same-running : (q r : Request) (m n : ℕ) → Running q m ≡ Running r n → (P : Request → ℕ → Type 0) → P r n → P q m
 same-running q r m n e P p = let f : q ≡ r = cc in let g : m ≡ n = cc in rw (f, g) p
 
+-- what a step that is not refused makes, of the request that runs in its slot
+module _ (w : World) (k : ℕ) (q : Request) (m : ℕ) (now : statusAt k (w .row) ≡ Running q m) (P : Request → ℕ → World → Type 0)
+    (moves : (s : Stepping w k q m) → P q m (moved w k q m)) where
+  step-makes : refusedStep (stepOf w k .answer) ≡ false → P q m (stepOf w k .world)
+  step-makes =
+      step-is w k (λ (s : Stepped). refusedStep (s .answer) ≡ false → P q m (s .world)) (λ _ f. absurd (true≢false f))
+      (λ r n s _. same-running r q n m (sym (s .now) ∙ now) (λ (x : Request) (y : ℕ). Stepping w k x y → P q m (moved w k x y)) (λ t. moves t) s)
+
 pub written : Written
 written w k q m now e wr =
-    step-is w k
-    (λ (s : Stepped). refusedStep (s .answer) ≡ false
-    → recordOf (w .hca .logs) (touched q) (s .world .store) ≡ burst (byteOf q (frontOf k q (w .room))) (getD (burstsOf q) m 0) (recordOf (w .hca .logs) (touched q) (w .store)))
-    (λ _ f. absurd (true≢false f))
-    (λ r n s _. same-running q r m n (sym now ∙ s .now)
-    (λ (x : Request) (y : ℕ). writesOf x ≡ true → recordOf (w .hca .logs) (touched x) (moved w k r n .store)
-    ≡ burst (byteOf x (frontOf k x (w .room))) (getD (burstsOf x) y 0) (recordOf (w .hca .logs) (touched x) (w .store)))
-    (moved-writes w k r n s) wr)
-    e
+    step-makes w k q m now
+    (λ (x : Request) (y : ℕ) (u : World). (recordOf (w .hca .logs) (touched x) (u .store)
+    ≡ burst (byteOf x (frontOf k x (w .room))) (getD (burstsOf x) y 0) (recordOf (w .hca .logs) (touched x) (w .store))) × (u .room ≡ w .room))
+    (λ s. (moved-writes w k q m s wr, moved-leaves-room w k q m s wr)) e
 
 pub copied : Copied
 copied w k q m now e rd =
-    step-is w k
-    (λ (s : Stepped). refusedStep (s .answer) ≡ false
-    → roomOf k (s .world .room) ≡ copy (getD (burstsOf q) m 0) (recordOf (w .hca .logs) (touched q) (w .store)) (roomOf k (w .room)))
-    (λ _ f. absurd (true≢false f))
-    (λ r n s _. same-running q r m n (sym now ∙ s .now)
-    (λ (x : Request) (y : ℕ). writesOf x ≡ false
-    → roomOf k (moved w k r n .room) ≡ copy (getD (burstsOf x) y 0) (recordOf (w .hca .logs) (touched x) (w .store)) (roomOf k (w .room)))
-    (moved-reads w k r n s) rd)
-    e
+    step-makes w k q m now
+    (λ (x : Request) (y : ℕ) (u : World). (roomOf k (u .room) ≡ copy (getD (burstsOf x) y 0) (recordOf (w .hca .logs) (touched x) (w .store)) (roomOf k (w .room)))
+    × (u .store ≡ w .store))
+    (λ s. (moved-reads w k q m s rd, moved-leaves-store w k q m s rd)) e
 
--- ---- bytes behind the records
+-- ---- the rest of the store
+
+pub elsewhere : Elsewhere
+unfolding taken closed
+elsewhere w (command bytes mail) e i n =
+    command-but-init w (λ (s : Submitted). getD (s .world .store) i 0 ≡ getD (w .store) i 0) (λ _. refl) (λ _ _ _ _. refl) refl refl bytes mail e
+elsewhere w (engineRequest m index psn code) e i n =
+    engine-is w (λ (s : Submitted). getD (s .world .store) i 0 ≡ getD (w .store) i 0) (λ _. refl) (λ _ _ _ _. refl) m index psn code
+elsewhere w (step k) e i n =
+    step-is w k (λ (s : Stepped). getD (s .world .store) i 0 ≡ getD (w .store) i 0) (λ _. refl)
+    (λ q m s. moved-outside w k q m s i (λ wr. side q m (s .now) wr (decLt i (burstAt w q m)) (decLt i (burstAt w q m + 16))))
+  where
+    side : (q : Request) (m : ℕ) → statusAt k (w .row) ≡ Running q m → writesOf q ≡ true → Dec (i < burstAt w q m) → Dec (i < burstAt w q m + 16)
+        → (i < burstAt w q m) ⊎ (burstAt w q m + 16 ≤ i)
+    side q m now wr (yes a) b = inl a
+    side q m now wr (no a) (yes b) = absurd (n (inBurst k q m now wr (omega arith) b))
+    side q m now wr (no a) (no b) = inr (omega arith)
+elsewhere w (collection k out) e i n = collect-is w k out (λ (c : Collected). getD (c .world .store) i 0 ≡ getD (w .store) i 0) (λ _. refl) (λ _ _. refl)
+elsewhere w resetting e i n = reset-is w (λ (r : Reset). getD (r .world .store) i 0 ≡ getD (w .store) i 0) (λ _. refl) (λ _. refl)
 
 -- what stands behind a replaced front
 front-above : (ys l : List ℕ) (i : ℕ) → length ys ≤ i → getD (splice 0 ys l) i 0 ≡ getD l i 0
@@ -149,11 +189,14 @@ module _ (w : World) (q : Request) (mail : List ℕ) (k : ℕ) (t : Taking w q m
   front-long : length (part 0 (needOf q) mail) ≡ needOf q
   front-long = length-part 0 (needOf q) mail (omega (arith, ltb-false (length mail) (needOf q) (t .enough)))
 
-  front-fits : k * slotRoom + length (part 0 (needOf q) mail) ≤ length (w .room)
-  front-fits =
+  slot-fits : k * slotRoom + slotRoom ≤ length (w .room)
+  slot-fits =
       let s : Sized w = lent-sized w (t .lent) in
       let l : Lowest (w .row) k = lowest-free-is (w .row) k (t .lowest) in
-      omega (arith, front-long, need-small q, s .roomed, s .rowed, l .inside)
+      omega (arith, s .roomed, s .rowed, l .inside)
+
+  front-fits : k * slotRoom + length (part 0 (needOf q) mail) ≤ length (w .room)
+  front-fits = omega (arith, front-long, need-small q, slot-fits)
 
   taken-rooms : (i : ℕ) → ¬ (i / slotRoom ≡ k) → getD (taken w q mail k .room) i 0 ≡ getD (w .room) i 0
   unfolding taken
@@ -192,20 +235,98 @@ SlotKept w j s = takes (submitted (s .answer)) j ≡ false → statusAt j (s .wo
 
 pub rows : Rows
 unfolding taken closed initialised moved
-rows w (command bytes mail) e j f g h =
+rows w (command bytes mail) j e f g h =
     command-is w (SlotKept w j) (λ _ _. refl) (λ q m k t. set-other (w .row) k j (accepted (getD (w .row) k (slot Free)) q)) (λ _. refl) (λ _. refl) bytes mail
     (λ _ _ _. refl) f
-rows w (engineRequest n index psn code) e j f g h =
+rows w (engineRequest n index psn code) j e f g h =
     engine-is w (SlotKept w j) (λ _ _. refl) (λ q m k t. set-other (w .row) k j (accepted (getD (w .row) k (slot Free)) q)) n index psn code f
-rows w (step k) e j f g h =
+rows w (step k) j e f g h =
     step-is w k (λ (s : Stepped). statusAt j (s .world .row) ≡ statusAt j (w .row)) (λ _. refl) (λ q m s. set-other (w .row) k j (slotMoved w k) g)
-rows w (collection k out) e j f g h =
+rows w (collection k out) j e f g h =
     collect-is w k out (λ (c : Collected). statusAt j (c .world .row) ≡ statusAt j (w .row)) (λ _. refl)
     (λ q _. set-other (w .row) k j (freed (getD (w .row) k (slot Free))) h)
-rows w resetting e j f g h =
-    reset-is w (λ (r : Reset). resetEnds (r .answer) ≡ false → statusAt j (r .world .row) ≡ statusAt j (w .row)) (λ _ _. refl) (λ _ d. absurd (true≢false d)) e
+rows w resetting j e f g h =
+    reset-is w (λ (r : Reset). empties (resetDone (r .answer)) ≡ false → statusAt j (r .world .row) ≡ statusAt j (w .row)) (λ _ _. refl) (λ _ d. absurd (true≢false d)) e
 
--- ---- the counts
+pub emptied : Emptied
+unfolding anySlot statusAt
+emptied w (command bytes mail) e = absurd (false≢true e)
+emptied w (engineRequest n index psn code) e = absurd (false≢true e)
+emptied w (step k) e = absurd (false≢true e)
+emptied w (collection k out) e = absurd (false≢true e)
+emptied w resetting e =
+    reset-is w (λ (r : Reset). empties (resetDone (r .answer)) ≡ true → ((j : ℕ) → statusAt j (r .world .row) ≡ Free) × (r .world .hca .«open» ≡ false))
+    (λ _ f. absurd (false≢true f)) (λ _ _. (λ j. ap (λ (s : Slot). s .status) (none-occupied emptyRow refl j), refl)) e
+
+-- ---- a request that is accepted
+
+abbrev TakenAs : Request → List ℕ → ℕ → World → World → Type 0
+TakenAs q front k w u = (statusAt k (u .row) ≡ Running q 0) × (roomOf k (u .room) ≡ splice 0 front (roomOf k (w .room)))
+
+-- two notes of an acceptance that are one
+same-note : (q r : Request) (a b : List ℕ) (j k : ℕ) → noted (onRecord q a) j ≡ noted (onRecord r b) k → (P : Request → List ℕ → ℕ → Type 0) → P q a j → P r b k
+same-note q r a b j k e P p = let f : q ≡ r = cc in let g : a ≡ b = cc in let h : j ≡ k = cc in rw (← f, ← g, ← h) p
+
+module _ (w : World) (r : Request) (front : List ℕ) (k : ℕ) where
+  -- no other note is that of an acceptance
+  not-nothing : (n : Note) → nothing ≡ n → n ≡ noted (onRecord r front) k → ⊥
+  not-nothing n e f = let z : _≡_ {A = ℕ} 0 1 = cc in omega arith
+
+  not-finished : (f : Fed) (a : List ℕ) → finished f a ≡ noted (onRecord r front) k → ⊥
+  not-finished f a e = let z : _≡_ {A = ℕ} 0 1 = cc in omega arith
+
+  not-collected : (j : ℕ) (out : List ℕ) (a : CollectAnswer) → collectNote j out a ≡ noted (onRecord r front) k → ⊥
+  not-collected j out (collect.Collected n) e = let z : _≡_ {A = ℕ} 0 1 = cc in omega arith
+  not-collected j out (collect.Refused c) e = not-nothing (collectNote j out (collect.Refused c)) refl e
+
+  admitted : badLent w ≡ false → (q : Request) (mail : List ℕ) → requestNote q mail (admit w q mail .answer) ≡ noted (onRecord r front) k
+      → TakenAs r front k w (admit w q mail .world)
+  unfolding taken statusAt roomOf
+  admitted l q mail =
+      admit-is w l q mail (λ (s : Submitted). requestNote q mail (s .answer) ≡ noted (onRecord r front) k → TakenAs r front k w (s .world)) refusal accepts
+    where
+      refusal : (c : Refusal) → requestNote q mail (submit.Refused c) ≡ noted (onRecord r front) k → TakenAs r front k w w
+      refusal c =
+          by-pick (λ (n : Note). n ≡ noted (onRecord r front) k → TakenAs r front k w w) (forState c) _ _
+          (λ _ e. let z : _≡_ {A = ℕ} 0 1 = cc in absurd (omega arith)) (λ _ e. absurd (not-nothing nothing refl e))
+
+      accepts : (j : ℕ) → Taking w q mail j → noted (onRecord q (part 0 (needOf q) mail)) j ≡ noted (onRecord r front) k → TakenAs r front k w (taken w q mail j)
+      accepts j t e =
+          same-note q r (part 0 (needOf q) mail) front j k e (λ (x : Request) (a : List ℕ) (i : ℕ). TakenAs x a i w (taken w q mail j)) (
+            ap (λ (s : Slot). s .status) (getD-set-same (w .row) j (slot (Running q 0)) (slot Free) (lowest-free-is (w .row) j (t .lowest) .inside)),
+            ap (λ (n : ℕ). part (j * slotRoom) slotRoom (splice n (part 0 (needOf q) mail) (w .room))) (sym (add-zero (j * slotRoom)))
+                ∙ splice-inside (j * slotRoom) slotRoom 0 (part 0 (needOf q) mail) (w .room) (slot-fits w q mail j t) (omega (arith, front-long w q mail j t, need-small q)),
+          )
+
+pub takings : Taken
+unfolding initialised
+takings w (command bytes mail) q front k =
+    command-cases w mail (λ (f : CommandFound) (s : Submitted). commandNote mail f (s .answer) ≡ noted (onRecord q front) k → TakenAs q front k w (s .world))
+    (λ f c e n. absurd (not-nothing w q front k (commandNote mail f (submit.Refused c)) (quiet mail f c e) n))
+    (λ c a. admitted w q front k (a .passing .lent) (request.Command c) mail)
+    (λ _ _ n. absurd (not-finished w q front k closeHca [] n)) (λ n. absurd (not-finished w q front k nop [] n))
+    (λ _ _ _ _ n. absurd (not-nothing w q front k nothing refl n)) bytes
+takings w (engineRequest m index psn code) q front k =
+    engine-cases w (λ (f : EngineFound) (s : Submitted). engineNote f (s .answer) ≡ noted (onRecord q front) k → TakenAs q front k w (s .world))
+    (λ f c e n. absurd (not-nothing w q front k (engineNote f (submit.Refused c)) (engine-quiet f c e) n))
+    (λ e a. admitted w q front k (a .passing .lent) (request.Engine e) []) m index psn code
+takings w (step j) q front k = λ n. absurd (not-nothing w q front k nothing refl n)
+takings w (collection j out) q front k = λ n. absurd (not-collected w q front k j (collectOf w j out .out) (collectOf w j out .answer) n)
+takings w resetting q front k = λ n. absurd (not-nothing w q front k nothing refl n)
+
+-- ---- the state
+
+pub opens : Opens
+unfolding taken closed initialised moved
+opens w (command bytes mail) e =
+    command-is w (λ (s : Submitted). atOnce (submitted (s .answer)) ≡ false → s .world .hca ≡ w .hca) (λ _ _. refl) (λ _ _ _ _ _. refl)
+    (λ f. absurd (true≢false f)) (λ _. refl) bytes mail (λ _ _ f. absurd (true≢false f)) e
+opens w (engineRequest n index psn code) e =
+    engine-is w (λ (s : Submitted). s .world .hca ≡ w .hca) (λ _. refl) (λ _ _ _ _. refl) n index psn code
+opens w (step k) e = step-is w k (λ (s : Stepped). s .world .hca ≡ w .hca) (λ _. refl) (λ _ _ _. refl)
+opens w (collection k out) e = collect-is w k out (λ (c : Collected). c .world .hca ≡ w .hca) (λ _. refl) (λ _ _. refl)
+opens w resetting e =
+    reset-is w (λ (r : Reset). atOnce (resetDone (r .answer)) ≡ false → r .world .hca ≡ w .hca) (λ _ _. refl) (λ _ f. absurd (true≢false f)) e
 
 abbrev CountsKept : World → World → Type 0
 CountsKept w u = (u .hca .logs ≡ w .hca .logs) × (u .hca .«store_len» ≡ w .hca .«store_len»)
@@ -247,3 +368,15 @@ sizes w (collection k out) =
     (λ _ _. (length-set (w .row) k (freed (getD (w .row) k (slot Free))), (refl, refl)))
 sizes w resetting =
     reset-is w (λ (r : Reset). SizesKept w (r .world)) (λ _. (refl, (refl, refl))) (λ b. (sym (sized w b .rowed), (refl, refl)))
+
+-- ---- the buffer
+
+pub buffers : Buffers
+buffers w k out =
+    collect-is w k out
+    (λ (c : Collected). (length (c .out) ≡ length out) × ((i : ℕ) → answerBytes (c .answer) ≤ i → getD (c .out) i 0 ≡ getD out i 0))
+    (λ _. (refl, λ _ _. refl))
+    (λ q c.
+    let long : length (answerAt w k q) ≡ answerSize q = answer-long w k out q c in
+    let fits : 0 + length (answerAt w k q) ≤ length out = omega (arith, long, ltb-false (length out) (answerSize q) (c .enough)) in
+    (length-splice 0 (answerAt w k q) out fits, λ i h. splice-above 0 (answerAt w k q) out fits i (omega (arith, long))))

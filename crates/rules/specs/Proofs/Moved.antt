@@ -1,4 +1,4 @@
--- A step is an event: one burst of a writer or of a reader, the last or not.
+-- One burst of a writer or of a reader, the last or not: what it makes of store and room, and that the step is an event.
 use mathlib.Core.Path.{_≡_, refl, sym, _∙_, ap, ap₂, subst}
 use mathlib.Core.Bool.{Bool, true, false, false≢true}
 use mathlib.Core.List.{List, [], _∷_}
@@ -302,10 +302,19 @@ module _ (w : World) (z : Sized w) (fits : inUse (w .hca .logs) ≤ length (w .s
   unfolding u j buf
   read-copied rd = got rd
 
-  -- bytes behind the records stay
-  pub behind-kept : (i : ℕ) → inUse (w .hca .logs) ≤ i → getD (moved w k q m .store) i 0 ≡ getD (w .store) i 0
-  unfolding u start writeAt
-  behind-kept i h = go (writesOf q) refl
+  -- a writer leaves the room, a reader the store
+  pub write-room : writesOf q ≡ true → moved w k q m .room ≡ w .room
+  unfolding u
+  write-room wr = room-is wr
+
+  pub read-store : writesOf q ≡ false → moved w k q m .store ≡ w .store
+  unfolding u
+  read-store rd = store-stays rd
+
+  -- bytes outside the burst stay
+  pub outside-kept : (i : ℕ) → (writesOf q ≡ true → (i < burstAt w q m) ⊎ (burstAt w q m + 16 ≤ i)) → getD (moved w k q m .store) i 0 ≡ getD (w .store) i 0
+  unfolding u writeAt
+  outside-kept i o = go (writesOf q) refl
     where
       new : List ℕ
       new = writtenPart q mail (16 * j) (part (start + 16 * j) 16 (w .store))
@@ -315,12 +324,21 @@ module _ (w : World) (z : Sized w) (fits : inUse (w .hca .logs) ≤ length (w .s
           length-writtenPart q mail (16 * j) (part (start + 16 * j) 16 (w .store))
           ∙ length-part (start + 16 * j) 16 (w .store) (omega (arith, record-fits, in-record))
 
+      new-fits : start + 16 * j + length new ≤ length (w .store)
+      new-fits = omega (arith, long, record-fits, in-record)
+
+      side : (i < burstAt w q m) ⊎ (burstAt w q m + 16 ≤ i) → getD (splice (start + 16 * j) new (w .store)) i 0 ≡ getD (w .store) i 0
+      side (inl h) = splice-below (start + 16 * j) new (w .store) new-fits i (omega (arith, at-is))
+      side (inr h) = splice-above (start + 16 * j) new (w .store) new-fits i (omega (arith, at-is, long))
+
       go : (b : Bool) → writesOf q ≡ b → getD (moved w k q m .store) i 0 ≡ getD (w .store) i 0
-      go true wr =
-          ap (λ (s : List ℕ). getD s i 0) (store-is wr)
-          ∙ splice-above (start + 16 * j) new (w .store) (omega (arith, long, record-fits, in-record)) i
-          (omega (arith, long, in-record, record-inside (w .hca .logs) (touched q) valid))
+      go true wr = ap (λ (s : List ℕ). getD s i 0) (store-is wr) ∙ side (o wr)
       go false rd = ap (λ (s : List ℕ). getD s i 0) (store-stays rd)
+
+  -- the burst lies in the bytes in use
+  pub in-use : burstAt w q m + 16 ≤ inUse (w .hca .logs)
+  unfolding start
+  in-use = omega (arith, at-is, in-record, record-inside (w .hca .logs) (touched q) valid)
 
   -- bytes of the room outside the slot's part stay
   pub room-kept : (i : ℕ) → ¬ (i / slotRoom ≡ k) → getD (moved w k q m .room) i 0 ≡ getD (w .room) i 0

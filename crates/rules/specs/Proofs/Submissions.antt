@@ -65,17 +65,17 @@ pub record Taking (w : World) (q : Request) (mail : List ℕ) (k : ℕ) : Type 0
   pub permitted : permissionOf q (recordNow w q) ≡ Permitted
   pub lowest : lowestFree 0 (w .row) ≡ At k
 
-module _ (w : World) (lent : badLent w ≡ false) (P : Submitted → Type 0) (refusals : (c : Refusal) → P (refused w c))
-    (takes : (q : Request) (mail : List ℕ) (k : ℕ) → Taking w q mail k → P (accepted (submit.Accepted k) (taken w q mail k))) where
-  admit-is : (q : Request) (mail : List ℕ) → P (admit w q mail)
+module _ (w : World) (lent : badLent w ≡ false) (q : Request) (mail : List ℕ) (P : Submitted → Type 0) (refusals : (c : Refusal) → P (refused w c))
+    (takes : (k : ℕ) → Taking w q mail k → P (accepted (submit.Accepted k) (taken w q mail k))) where
+  pub admit-is : P (admit w q mail)
   unfolding admit judged placed
-  admit-is q mail =
+  admit-is =
       by-pick P (ltb (length mail) (needOf q)) _ _ (λ _. refusals cause.ShortMailbox)
       (λ n. by-pick P (not (contentHolds q mail)) _ _ (λ _. refusals cause.BadContent)
       (λ _. by-pick P (heldAgainst (w .row) q) _ _ (λ _. refusals cause.Held) (λ _. judged-is n (permissionOf q (recordNow w q)) refl)))
     where
       placed-is : ltb (length mail) (needOf q) ≡ false → permissionOf q (recordNow w q) ≡ Permitted → (f : Found) → lowestFree 0 (w .row) ≡ f → P (placed w q mail f)
-      placed-is n e (At k) f = takes q mail k (record { lent = lent; enough = n; permitted = e; lowest = f })
+      placed-is n e (At k) f = takes k (record { lent = lent; enough = n; permitted = e; lowest = f })
       placed-is n e Nothing f = refusals cause.Full
 
       judged-is : ltb (length mail) (needOf q) ≡ false → (v : Verdict) → permissionOf q (recordNow w q) ≡ v → P (judged w q mail v)
@@ -178,19 +178,19 @@ module _ (w : World) (mail : List ℕ) (P : CommandFound → Submitted → Type 
 module _ (w : World) (P : Submitted → Type 0) (refusals : (c : Refusal) → P (refused w c))
     (takes : (q : Request) (mail : List ℕ) (k : ℕ) → Taking w q mail k → P (accepted (submit.Accepted k) (taken w q mail k))) where
   pub engine-is : (n index psn code : ℕ) → P (submitEngine w n index psn code)
-  engine-is = engine-cases w (λ _ (s : Submitted). P s) (λ _ c _. refusals c) (λ e a. admit-is w (a .passing .lent) P refusals takes (request.Engine e) [])
+  engine-is = engine-cases w (λ _ (s : Submitted). P s) (λ _ c _. refusals c) (λ e a. admit-is w (a .passing .lent) (request.Engine e) [] P refusals (takes (request.Engine e) []))
 
   module _ (closes : P (accepted submit.Done (closed w))) (nops : P (accepted submit.Done w)) where
     pub command-is : (bytes mail : List ℕ) → ((g : Logs) → initOf mail (length (w .store)) ≡ init.Layout g → P (initialised w (init.Layout g)))
         → P (submitCommand w bytes mail)
     command-is bytes mail inits =
         command-cases w mail (λ _ (s : Submitted). P s) (λ _ c _. refusals c)
-        (λ c a. admit-is w (a .passing .lent) P refusals takes (request.Command c) mail) (λ _ _. closes) nops (λ g _ _ e. inits g e) bytes
+        (λ c a. admit-is w (a .passing .lent) (request.Command c) mail P refusals (takes (request.Command c) mail)) (λ _ _. closes) nops (λ g _ _ e. inits g e) bytes
 
     -- every command but an initialisation
     pub command-but-init : (bytes mail : List ℕ) → initialises w bytes mail ≡ false → P (submitCommand w bytes mail)
     unfolding initialises initialised
     command-but-init bytes mail =
         command-cases w mail (λ (f : CommandFound) (s : Submitted). pick (isInit f) (isDone (s .answer)) false ≡ false → P s) (λ _ c _ _. refusals c)
-        (λ c a _. admit-is w (a .passing .lent) P refusals takes (request.Command c) mail) (λ _ _ _. closes) (λ _. nops)
+        (λ c a _. admit-is w (a .passing .lent) (request.Command c) mail P refusals (takes (request.Command c) mail)) (λ _ _ _. closes) (λ _. nops)
         (λ g _ _ _ e. absurd (true≢false e)) bytes
