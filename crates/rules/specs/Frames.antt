@@ -4,6 +4,7 @@
 -- * `Refusals`: a refusal changes nothing, neither state, row, store and room nor the buffer.
 -- * `Written`, `Copied`: a step that is not refused makes exactly the next burst of its request, a write in its record by the byte
 --   rule, leaving the room, a read as a copy in the slot's part of the room, leaving the store.
+-- * `BurstsWhole`, `BurstsRead`: all bursts of a request make its whole effect, or all that its answer reads.
 -- * `Records`, `Elsewhere`, `Behind`: nothing else in the store. Of every record, a call other than an initialisation makes nothing,
 --   or the burst of a running request that writes it; no byte outside that burst changes; and bytes behind the records in use never
 --   change, by an initialisation neither.
@@ -27,10 +28,12 @@ use Rattle.context.specs.Layout.{isRecord, recordOf, recordSize, inUse}
 use Rattle.context.specs.declared.Record.{Record}
 use Rattle.requests.specs.declared.Request.{Request}
 use Rattle.tables.specs.Records.{recordOf as touched, writesOf}
+use Rattle.tables.specs.Mailboxes.{needOf}
 use Rattle.burst_table.specs.Bursts.{burstsOf, totalOf}
 use Rattle.byte_rule.specs.Bytes.{byteOf}
-use Rattle.bursts.specs.Bursts.{burst}
-use Rattle.bursts.specs.Copies.{copy}
+use Rattle.answers.specs.Answers.{answerOf as answerFrom}
+use Rattle.bursts.specs.Bursts.{burst, after}
+use Rattle.bursts.specs.Copies.{copy, copies}
 use Rattle.slots.specs.declared.Status.the-variants.{Free, Running}
 use Rattle.rules.specs.declared.SubmitAnswer.{SubmitAnswer}
 use Rattle.rules.specs.declared.SubmitAnswer.the-variants as submit
@@ -43,6 +46,7 @@ use Rattle.rules.specs.declared.ResetAnswer.the-variants as resets
 use Rattle.rules.specs.World.{World, slotRoom, roomOf, frontOf, statusAt}
 use Rattle.rules.specs.Steps.{burstAt, stepOf}
 use Rattle.rules.specs.Collections.{collectOf}
+use Rattle.rules.specs.Whole.{wholeEffect}
 use Rattle.rules.specs.Book.{onRecord}
 use Rattle.rules.specs.Calls.{Call, command, engineRequest, step, collection, resetting, Answer, submitted, stepped, collected, resetDone, accepted, answerOf, worldAfter, noteOf, begins}
 
@@ -107,6 +111,18 @@ Copied =
     → (roomOf k (stepOf w k .world .room)
     ≡ copy (getD (burstsOf q) m 0) (recordOf (w .hca .logs) (touched q) (w .store)) (roomOf k (w .room)))
     × (stepOf w k .world .store ≡ w .store)
+
+-- All bursts of a write, one after the other, make its whole effect, as the book has it; of a read, the room then answers as the
+-- record does.
+abbrev pub BurstsWhole : Type 0
+BurstsWhole =
+    (q : Request) (mail r : List ℕ) → needOf q ≤ length mail → length r ≡ recordSize (touched q)
+    → after (byteOf q mail) (burstsOf q) r ≡ wholeEffect q mail r
+
+abbrev pub BurstsRead : Type 0
+BurstsRead =
+    (q : Request) (r room : List ℕ) → writesOf q ≡ false → length r ≡ recordSize (touched q) → length room ≡ slotRoom
+    → answerFrom q (copies (burstsOf q) r room) ≡ answerFrom q r
 
 -- What a call makes of a record: nothing, or, where it steps a slot whose running request writes that record, exactly the next burst
 -- of it by the byte rule.

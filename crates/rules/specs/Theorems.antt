@@ -1,10 +1,13 @@
 -- THE THEOREMS about the rules. They assume nothing.
-use mathlib.Core.Path.{_≡_, ap}
+use mathlib.Core.Path.{_≡_, sym, _∙_, ap}
 use Prim.Native.Nat.{ℕ, suc}
+use Rattle.bursts.specs.Effects.{writes-whole}
 use Rattle.rules.specs.Book.{Book, Fed, numberOf, effectOf, byNumber, afterOf}
-use Rattle.rules.specs.Frames.{Refusals, Written, Copied, Records, Elsewhere, Behind, Taken, Rooms, Rows, Emptied, Opens, Counts, Buffers, Sizes}
+use Rattle.rules.specs.Frames.{Refusals, Written, Copied, BurstsWhole, BurstsRead, Records, Elsewhere, Behind, Taken, Rooms, Rows, Emptied, Opens, Counts, Buffers, Sizes}
 use Rattle.rules.specs.Demand2.{Statement as States}
 use Rattle.rules.specs.Demand3.{Zeroed, Statement as Serial}
+use Rattle.rules.specs.Proofs.Agree.{whole-bytes}
+use Rattle.rules.specs.Proofs.Admitted.{read-answers}
 use Rattle.rules.specs.Proofs.Frame as frame
 use Rattle.rules.specs.Proofs.Kept as kept
 use Rattle.rules.specs.Proofs.Edges as edges
@@ -21,6 +24,13 @@ written = kept.written
 
 pub copied : Copied
 copied = kept.copied
+
+-- all its bursts make the whole effect, or all that the answer reads
+pub bursts-whole : BurstsWhole
+bursts-whole q mail r n e = writes-whole q mail r e ∙ sym (whole-bytes q mail r n e)
+
+pub bursts-read : BurstsRead
+bursts-read = read-answers
 
 -- and nothing else in the store: no other record, no byte outside the burst, none behind the records
 pub records : Records
