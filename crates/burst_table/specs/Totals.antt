@@ -1,4 +1,4 @@
--- Bounds of the burst table.
+-- A bound of the burst table.
 use Prim.Native.Nat.{_≤_}
 use lib.Dec.{lit≤}
 use Rattle.requests.specs.declared.Command.the-variants as command
@@ -7,7 +7,7 @@ use Rattle.requests.specs.declared.Request.{Request}
 use Rattle.requests.specs.declared.Request.the-variants as request
 use Rattle.burst_table.specs.Bursts.{totalOf}
 
--- every request moves a burst, and at most 16
+-- every request moves a burst
 pub total-positive : (q : Request) → 1 ≤ totalOf q
 total-positive (request.Command (command.Sw2Hw o)) = lit≤ tt
 total-positive (request.Command (command.Hw2Sw o)) = lit≤ tt
@@ -18,14 +18,3 @@ total-positive (request.Engine (engine.ReadState n)) = lit≤ tt
 total-positive (request.Engine (engine.ReadNext n)) = lit≤ tt
 total-positive (request.Engine (engine.ReadAll n)) = lit≤ tt
 total-positive (request.Engine (engine.Write p n psn s)) = lit≤ tt
-
-pub total-small : (q : Request) → totalOf q ≤ 16
-total-small (request.Command (command.Sw2Hw o)) = lit≤ tt
-total-small (request.Command (command.Hw2Sw o)) = lit≤ tt
-total-small (request.Command (command.ResizeCq n)) = lit≤ tt
-total-small (request.Command (command.QueryQp n)) = lit≤ tt
-total-small (request.Command (command.ModifyQp e n)) = lit≤ tt
-total-small (request.Engine (engine.ReadState n)) = lit≤ tt
-total-small (request.Engine (engine.ReadNext n)) = lit≤ tt
-total-small (request.Engine (engine.ReadAll n)) = lit≤ tt
-total-small (request.Engine (engine.Write p n psn s)) = lit≤ tt

@@ -1,5 +1,4 @@
 -- Document 01, "Engine requests": from number, index, PSN and state to the request.
-use mathlib.Core.Path.{_≡_, refl}
 use Prim.Native.Nat.{ℕ}
 use lib.Dec.{eqb}
 use Rattle.words.specs.Choice.{pick}
@@ -8,8 +7,6 @@ use Rattle.context.specs.declared.Logs.{Logs}
 use Rattle.context.specs.declared.QpNumber.{QpNumber}
 use Rattle.context.specs.declared.QpFound.{QpFound}
 use Rattle.context.specs.declared.QpFound.the-variants as qpFound
-use Rattle.edges.specs.States.{stateCode}
-use Rattle.edges.specs.declared.State.{State}
 use Rattle.edges.specs.declared.State.the-variants.{Reset, Init, Rtr, Rts, Sqe, Sqd, Err}
 use Rattle.requests.specs.Psns.{psnFits}
 use Rattle.requests.specs.declared.Psn.{Psn}
@@ -47,17 +44,6 @@ stateFrom code =
     (pick (eqb code 5) (stateFound.State Sqd)
     (pick (eqb code 6) (stateFound.State Err)
     stateFound.OutOfRange))))))
-
--- a state's code is read back as that state
-pub state-found : (s : State) → stateFrom (stateCode s) ≡ stateFound.State s
-unfolding stateFrom
-state-found Reset = refl
-state-found Init = refl
-state-found Rtr = refl
-state-found Rts = refl
-state-found Sqe = refl
-state-found Sqd = refl
-state-found Err = refl
 
 abbrev pub withState : Psn → QpNumber → ℕ → StateFound → EngineFound
 withState p n psn (stateFound.State s) = Asked (engine.Write p n psn s)

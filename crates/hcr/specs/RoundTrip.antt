@@ -219,22 +219,6 @@ op-again : (h : List ℕ) → commandOf h .op ≤ 0xfff
 unfolding commandOf bits
 op-again h = omega arith
 
--- What is read fits.
-pub command-fits : (h : List ℕ) → AreBytes h → 28 ≤ length h → Fits (commandOf h)
-unfolding commandOf paramAt bits
-command-fits h bytes long =
-    record {
-      in-param = omega (arith, small-at 0 (lit≤ tt), small-at 4 (lit≤ tt));
-      in-modifier = small-at 8 (lit≤ tt);
-      out-param = omega (arith, small-at 12 (lit≤ tt), small-at 16 (lit≤ tt));
-      token = omega arith;
-      op-modifier = omega arith;
-      op = omega arith;
-    }
-  where
-    small-at : (at : ℕ) → at ≤ 24 → le32 at h < 2 ^ 32
-    small-at at p = le32-small at h (omega arith) bytes
-
 -- "reading well-formed bytes and writing gives the bytes".
 pub read-write : (h : List ℕ) → AreBytes h → 28 ≤ length h → wellFormed h ≡ true
     → (readOf h ≡ reads.Command (commandOf h)) × (writeOf (commandOf h) h ≡ writes.Done) × (writtenOf (commandOf h) h ≡ h)

@@ -8,7 +8,7 @@ use borrow.Author.Tests.{ltb-false, le-ltb}
 use lib.Dec.{ltb, lit≤}
 use lib.ListN.{length, getD}
 use Rattle.words.specs.Choice.{pick, by-pick}
-use Rattle.words.specs.Parts.{part, splice, length-part, part-part, length-splice, splice-above}
+use Rattle.words.specs.Parts.{part, splice, length-part, part-part, splice-above}
 use Rattle.words.specs.Words.{le32, leValue}
 use Rattle.hcr.specs.declared.HcrCommand.{HcrCommand}
 use Rattle.hcr.specs.declared.WriteAnswer.{WriteAnswer}
@@ -27,11 +27,7 @@ module _ (c : HcrCommand) (h : List ℕ) where
       (λ f. same)
       (λ f. done (ltb-false (length h) 28 e)))
 
-  -- the writer leaves the length
-  pub length-writtenOf : length (writtenOf c h) ≡ length h
-  length-writtenOf = by-answer (λ (l : List ℕ). length l ≡ length h) refl (λ p. length-splice 0 (registerOf c) h (omega (arith, length-registerOf c)))
-
-  -- and every byte from 28 on
+  -- the writer leaves every byte from 28 on
   pub rest-stays : (i : ℕ) → 28 ≤ i → getD (writtenOf c h) i 0 ≡ getD h i 0
   rest-stays i q =
       by-answer (λ (l : List ℕ). getD l i 0 ≡ getD h i 0) refl

@@ -3,7 +3,6 @@
 -- That the book's whole effect is the byte rule over all bytes:
 pub mod AgreeEdges
 pub mod Agree
-pub mod AgreeState
 -- Demand 3: the book as a system of `serial`, what is seen of a world, and every call as an event:
 pub mod System
 pub mod Shown

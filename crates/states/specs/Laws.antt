@@ -4,8 +4,8 @@ use mathlib.Core.Bool.{Bool, true, false, not}
 use mathlib.Core.List.{List}
 use mathlib.Core.Logic.{inl}
 use Prim.Native.Nat.{ℕ, _<_}
-use borrow.Author.Tests.{not-false, ltb-true, eqb-true}
-use lib.Dec.{ltb, eqb}
+use borrow.Author.Tests.{not-false, ltb-true}
+use lib.Dec.{ltb}
 use lib.ListN.{set}
 use Rattle.words.specs.Choice.{both, both-left, both-right}
 use Rattle.context.specs.Layout.{isRecord, fitsStore}
@@ -21,7 +21,7 @@ use Rattle.rows.specs.Every.{at}
 use Rattle.rows.specs.Laws.{clash-one, clash-symmetric, none-occupied, no-writer}
 use Rattle.slots.specs.declared.Slot.{Slot}
 use Rattle.slots.specs.declared.Status.{Status}
-use Rattle.slots.specs.declared.Status.the-variants.{Free, Running, Finished}
+use Rattle.slots.specs.declared.Status.the-variants.{Free, Running}
 use Rattle.states.specs.Possible.{statusWrong, impossible}
 use Rattle.states.specs.Pairs.{statusesClash}
 use Rattle.states.specs.Rows.{OpenRow, open-row, row-open, row-accepted, row-advanced, row-freed}
@@ -104,16 +104,6 @@ module _ (h : Hca) (row : List Slot) (o : h .«open» ≡ true) (p : Possible h 
   pub running-moved : (k : ℕ) (q : Request) (m : ℕ) → at row k .status ≡ Running q m → m < totalOf q
   running-moved k q m e =
       ltb-true m (totalOf q) (not-false (ltb m (totalOf q)) (neither-right (not (numbersHold (h .logs) q)) _ (status-right k (Running q m) e)))
-
-  pub finished-numbers : (k : ℕ) (q : Request) (m : ℕ) → at row k .status ≡ Finished q m → numbersHold (h .logs) q ≡ true
-  finished-numbers k q m e = not-false (numbersHold (h .logs) q) (neither-left (not (numbersHold (h .logs) q)) _ (status-right k (Finished q m) e))
-
-  pub finished-right : (k : ℕ) (q : Request) (m : ℕ) → at row k .status ≡ Finished q m → Right (h .logs) q
-  finished-right k q m e = numbers-right (h .logs) q (finished-numbers k q m e)
-
-  pub finished-moved : (k : ℕ) (q : Request) (m : ℕ) → at row k .status ≡ Finished q m → m ≡ totalOf q
-  finished-moved k q m e =
-      eqb-true m (totalOf q) (not-false (eqb m (totalOf q)) (neither-right (not (numbersHold (h .logs) q)) _ (status-right k (Finished q m) e)))
 
   -- "Only one command may be uncollected at a time."
   pub one-command : (i j : ℕ) → ¬ (i ≡ j) → hasCommand (at row i) ≡ true → hasCommand (at row j) ≡ false

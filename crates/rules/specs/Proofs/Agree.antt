@@ -1,6 +1,6 @@
 -- The plain book's whole effect is the byte rule over all bytes of the record.
 use mathlib.Core.Path.{_≡_, refl, sym, _∙_, ap}
-use mathlib.Core.Bool.{false, false≢true}
+use mathlib.Core.Bool.{false}
 use mathlib.Core.List.{List, [], _∷_, _++_}
 use mathlib.Core.Logic.{_⊎_, inl}
 use Prim.Native.Nat.{ℕ, _+_, _-_, _/_, _%_, _≤_, _<_}
@@ -25,7 +25,7 @@ use Rattle.requests.specs.declared.Engine.the-variants as engine
 use Rattle.requests.specs.declared.Request.{Request}
 use Rattle.requests.specs.declared.Request.the-variants as request
 use Rattle.tables.specs.Sizes.{owned-size}
-use Rattle.tables.specs.Records.{recordOf, writesOf}
+use Rattle.tables.specs.Records.{recordOf}
 use Rattle.tables.specs.Mailboxes.{storedOf, needOf}
 use Rattle.burst_table.specs.Bursts.{psnPlace}
 use Rattle.byte_rule.specs.Bytes.{sw2hwByte, resizeByte, psnByte, writeByte, byteOf}
@@ -150,19 +150,3 @@ whole-bytes (request.Engine (engine.ReadNext n)) mail r h w = sym (map-same 0 r)
 whole-bytes (request.Engine (engine.ReadAll n)) mail r h w = sym (map-same 0 r)
 whole-bytes (request.Engine (engine.Write p n psn s)) mail r h w =
     state-over s (psnByte (psnPlace p) psn) (psnEffect p psn r) r (omega arith) (psn-bytes p psn r w)
-
-pub length-whole : (q : Request) (mail r : List ℕ) → needOf q ≤ length mail → length r ≡ recordSize (recordOf q)
-    → length (wholeEffect q mail r) ≡ length r
-length-whole q mail r h w = ap length (whole-bytes q mail r h w) ∙ length-mapFrom (byteOf q mail) 0 r
-
--- "Reads .. Nothing changes."
-pub whole-reader : (q : Request) (mail r : List ℕ) → writesOf q ≡ false → wholeEffect q mail r ≡ r
-whole-reader (request.Command (command.Sw2Hw o)) mail r e = absurd (false≢true (sym e))
-whole-reader (request.Command (command.Hw2Sw o)) mail r e = absurd (false≢true (sym e))
-whole-reader (request.Command (command.ResizeCq n)) mail r e = absurd (false≢true (sym e))
-whole-reader (request.Command (command.QueryQp n)) mail r e = refl
-whole-reader (request.Command (command.ModifyQp edge n)) mail r e = absurd (false≢true (sym e))
-whole-reader (request.Engine (engine.ReadState n)) mail r e = refl
-whole-reader (request.Engine (engine.ReadNext n)) mail r e = refl
-whole-reader (request.Engine (engine.ReadAll n)) mail r e = refl
-whole-reader (request.Engine (engine.Write p n psn s)) mail r e = absurd (false≢true (sym e))

@@ -1,5 +1,5 @@
 -- `slots::Slot::advance` meets its contract.
-use mathlib.Core.Path.{_≡_, ap}
+use mathlib.Core.Path.{_≡_}
 use Prim.Native.Nat.{ℕ}
 use borrow.Author.Needs.{needs}
 use Rattle.slots.specs.Slots.{slot, advancedStatus, leftStatus, advancedSlot}
