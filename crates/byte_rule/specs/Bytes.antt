@@ -48,6 +48,7 @@ psnByte at psn i old =
     (pick (eqb i (at + 3)) (psn % 0x100)
     old))
 
+-- "3 write next PSN and state; 4 write last acked PSN and state; 5 write expected PSN and state"
 unfoldable pub writeByte : Psn → ℕ → State → ℕ → ℕ → ℕ
 writeByte p psn s i old = withState s i (psnByte (psnPlace p) psn i old)
 

@@ -1,4 +1,5 @@
--- Logarithms within their ranges give counts and starts that no sum of the code wraps.
+-- Logarithms within their ranges give counts and starts that no sum of the code wraps; and those that INIT_HCA accepts give records
+-- that fit the store.
 use mathlib.Core.Path.{_≡_, sym, _∙_, ap, subst}
 use mathlib.Core.List.{List}
 use mathlib.Core.Bool.{true}

@@ -21,7 +21,8 @@ initRows mailbox store short out-of-range layout =
 unfoldable pub initOf : List ℕ → ℕ → Init
 initOf mailbox store = initRows mailbox store ShortMailbox OutOfRange (Layout (logsOf mailbox))
 
--- Document 01's number for each answer
+-- Document 01's number for each answer: "0 means done or accepted"; 0x83: "mailbox shorter than needed"; 3: "INIT_HCA out of range or
+-- larger than the store"
 abbrev pub initNumber : Init → ℕ
 initNumber (Layout g) = 0
 initNumber ShortMailbox = 0x83

@@ -46,6 +46,7 @@ toOf SqdToRts = Rts
 toOf ToErr = Err
 toOf ToReset = Reset
 
+-- The table of edges, and "A state code above 6 .. permits no edge."
 unfoldable pub permitsEdge : Edge → ℕ → Bool
 permitsEdge edge code = both (isState code) (fromOf edge code)
 
@@ -80,7 +81,7 @@ permits (Engine to) code service = permitsWrite to code service
 unfoldable pub judgeOf : Move → ℕ → ℕ → Verdict
 judgeOf asked code service = pick (permits asked code service) Permitted NotPermitted
 
--- 01's number for each verdict
+-- 01's number for each verdict: "0 means done or accepted"; 0x85: "edge not permitted, or wrong owner"
 abbrev pub verdictNumber : Verdict → ℕ
 verdictNumber Permitted = 0
 verdictNumber NotPermitted = 0x85

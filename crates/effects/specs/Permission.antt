@@ -30,6 +30,7 @@ commandPermits (command.ResizeCq n) r = hardwareOnly r
 commandPermits (command.QueryQp n) r = Permitted
 commandPermits (command.ModifyQp e n) r = judgeOf (move.Command e) (stateOf r) (serviceOf r)
 
+-- "Writes may keep RTR, RTS, SQD or SQE; .. No other engine write is permitted.": no limit to reads (docs/DECISIONS.md, 28)
 abbrev pub enginePermits : Engine → List ℕ → Verdict
 enginePermits (engine.ReadState n) r = Permitted
 enginePermits (engine.ReadNext n) r = Permitted

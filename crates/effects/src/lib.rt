@@ -1,5 +1,5 @@
-// What a request asks of its record and its mailbox. Every function here is a leaf: its callers have tested the
-// lengths.
+// What a request asks of its record and its mailbox. The lent buffers are long enough: the callers have tested
+// the lengths.
 use context::CqNumber;
 use edges::Edge;
 use edges::Move;

@@ -93,7 +93,7 @@ engineFound g n index psn state = numberFound g index psn state (numberOf n)
 -- ---- what a call and its answer say of a request, for the journal
 
 pub data Note : Type 0 where
-  -- nothing: a step, or a refusal that is not because of a record's state
+  -- nothing: a step, INIT_HCA, a reset, or a refusal that is not because of a record's state
   nothing : Note
   -- refused because of its record's state, with this number
   refused : Fed → ℕ → Note

@@ -25,7 +25,7 @@ engineServed w index psn state (Served n) =
     pick (not (w .hca .«open»)) (refused w cause.BadSystemState)
     (engineAsked w (engineOf (w .hca .logs) n index psn state))
 
--- both tests of lent memory come first; then "request number not served"
+-- lent memory and state are tested first, as by every call but reset; then "request number not served"
 unfoldable pub submitEngine : World → ℕ → ℕ → ℕ → ℕ → Submitted
 submitEngine w number index psn state =
     pick (badLent w) (refused w cause.BadLength)

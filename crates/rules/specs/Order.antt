@@ -1,5 +1,6 @@
--- Document 01, "Order of checks: top to bottom, the first that applies.": calls to which two rows of the table of refusals apply, or one
--- that is just not passed, each tried alone in a state that is handed in. The answers are written out by hand from document 01.
+-- Document 01, "Order of checks: top to bottom, the first that applies.": calls to which two rows of the table of refusals apply, and
+-- calls that one row just refuses or just lets pass, each tried alone in a state that is handed in. The answers are written out by hand
+-- from document 01.
 use mathlib.Core.Path.{_≡_, refl}
 use mathlib.Core.Bool.{Bool, true, false, not}
 use mathlib.Core.List.{List, [], _∷_, _++_, map}
@@ -40,7 +41,7 @@ alone w (c ∷ cs) = shown (answerOf w c) ∷ alone w cs
 abbrev pub rowed : List Slot → World
 rowed row = world (start .hca) row (start .store) (start .room)
 
--- open, with these counts and these two slots occupied
+-- open or closed, with these counts and these two slots; the others are free
 abbrev pub handed : Bool → Logs → Status → Status → World
 handed o g s t = world (hcaOf o g 800) (slot s ∷ slot t ∷ replicate 6 (slot Free)) (start .store) (start .room)
 
@@ -195,11 +196,11 @@ below87 =
     ∷ asks 0x17 0 [] gets (0x85 ∷ [])
     ∷ asks 0x2c 0 (replicate 7 0) gets (0x83 ∷ [])
     ∷ asks 0x2c 0 (replicate 8 0) gets (0x85 ∷ [])
-    -- a read does not look at PSN and state
     ∷ engineRequest 3 2 0 2 gets (3 ∷ [])
     ∷ engineRequest 3 0 0x1000000 2 gets (3 ∷ [])
     ∷ engineRequest 3 0 0 7 gets (3 ∷ [])
     ∷ engineRequest 3 0 0xffffff 6 gets (0x85 ∷ [])
+    -- a read does not look at PSN and state
     ∷ engineRequest 6 0 0x1000000 7 gets (0 ∷ 0 ∷ [])
     ∷ [])
     ∷ []

@@ -72,6 +72,8 @@ commandEffect (command.ResizeCq n) mail r = resizeEffect mail r
 commandEffect (command.QueryQp n) mail r = r
 commandEffect (command.ModifyQp e n) mail r = edgeEffect e mail r
 
+-- "Reads (.. requests 1, 2 and 6): .. Nothing changes."; "3 write next PSN and state; 4 write last acked PSN and state; 5 write expected
+-- PSN and state"
 abbrev pub engineEffect : Engine → List ℕ → List ℕ
 engineEffect (engine.ReadState n) r = r
 engineEffect (engine.ReadNext n) r = r

@@ -25,7 +25,7 @@ pub record Sys : Type 1 where
   pub Req : Type 0
   pub Ans : Type 0
   -- The verdict: `accepted`, or why not. A type of its own and not a number, so that two causes may share a number, and so that
-  -- a cause that no call ever gives (a slot's names are not those that its records have) is a case and not a number set aside.
+  -- a cause that no call ever gives is a case and not a number set aside.
   pub Num : Type 0
   pub accepted : Num
   -- how far a request has come, with what it has gathered; `start` stands in for a slot that the journal names and that is

@@ -2,8 +2,8 @@
 --
 -- Demand 3 is owed from an initialisation on, until a reset drops everything; then it begins again at the next initialisation. A
 -- ledger says where a run is in this: `shut`, nothing is owed; or `kept`, with the store of the last fresh start and the journal
--- since. A fresh start may come in the middle of a run, at any call that leaves every slot free: an initialisation, a load, or a
--- change of the map from records to memory. The requests before it no longer count, and the book starts from the records it left.
+-- since. A fresh start may come in the middle of a run, at an initialisation or any other call that leaves every slot free. The
+-- requests before it no longer count, and the book starts from the records it left.
 use mathlib.Core.Path.{_≡_}
 use mathlib.Core.List.{List, []}
 use Prim.Native.Nat.{ℕ}

@@ -30,6 +30,8 @@ commandRecord (command.ResizeCq n) = rec.Cq n
 commandRecord (command.QueryQp n) = rec.Qp n
 commandRecord (command.ModifyQp e n) = rec.Qp n
 
+-- The index is a queue pair's number: no sentence of document 01 says so, but state and PSNs stand in the "QP record" alone
+-- (docs/DECISIONS.md, 28).
 abbrev pub engineRecord : Engine → Record
 engineRecord (engine.ReadState n) = rec.Qp n
 engineRecord (engine.ReadNext n) = rec.Qp n

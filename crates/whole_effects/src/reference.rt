@@ -7,7 +7,7 @@ use crate::memory::RECORD_AT;
 // the state that the edge leads to.
 struct Row(u8, u8, u8, u8, u32);
 
-// No word: it lies past the end of every record and mailbox.
+// No word: none starts there, and `put` puts none behind offset 252.
 const NO: u8 = 0xff;
 
 // States, by their codes.

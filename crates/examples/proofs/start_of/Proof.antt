@@ -1,4 +1,4 @@
--- `examples::start_of` meets its contract. What `record_at` requires follows from the two tests before it.
+-- `examples::start_of` is safe and ends. What `record_at` requires follows from the two tests before it.
 use mathlib.Core.Bool.{true}
 use borrow.Author.Needs.{needs}
 use borrow.Author.Tests.{not-false}

@@ -1,4 +1,5 @@
--- A command or engine request that was found has a record of the store.
+-- A command or engine request that was found has a record of the store. Commands on a record and CLOSE_HCA are served while open only,
+-- INIT_HCA while closed only; and what is found as CLOSE_HCA has its op.
 use mathlib.Core.Path.{_≡_, refl, subst}
 use mathlib.Core.Bool.{Bool, true, false, not}
 use Prim.Native.Nat.{ℕ, _^_}

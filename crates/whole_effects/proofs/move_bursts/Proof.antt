@@ -1,4 +1,4 @@
--- `whole_effects::move_bursts` meets its contract. The store and the room keep their lengths, and the laws of the burst table
+-- `whole_effects::move_bursts` is safe and ends. The store and the room keep their lengths, and the laws of the burst table
 -- place each burst in the record and the mailbox in the slot's part of the room.
 use mathlib.Core.Path.{_≡_}
 use Prim.Native.Nat.{ℕ, _+_, _-_, _≤_, _<_}

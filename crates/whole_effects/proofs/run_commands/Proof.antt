@@ -1,4 +1,4 @@
--- `whole_effects::run_commands` meets its contract: the mailbox keeps its length, and the ops left become fewer.
+-- `whole_effects::run_commands` is safe and ends: the mailbox keeps its length, and the ops left become fewer.
 use mathlib.Core.Path.{_≡_}
 use Prim.Native.Nat.{_-_}
 use borrow.Author.Needs.{needs}

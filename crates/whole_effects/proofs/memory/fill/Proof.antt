@@ -1,4 +1,4 @@
--- `whole_effects::memory::fill` meets its contract: the slice keeps its length, which `end` does not pass.
+-- `whole_effects::memory::fill` is safe and ends: the slice keeps its length, which `end` does not pass.
 use mathlib.Core.Path.{_≡_}
 use Prim.Native.Nat.{_-_, _≤_}
 use borrow.Author.Needs.{needs}

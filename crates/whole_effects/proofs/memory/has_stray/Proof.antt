@@ -1,4 +1,4 @@
--- `whole_effects::memory::has_stray` meets its contract: the bytes left become fewer.
+-- `whole_effects::memory::has_stray` is safe and ends: the bytes left become fewer.
 use Prim.Native.Nat.{_-_}
 use borrow.Author.Needs.{needs}
 use lib.ListN.{length}

@@ -1,4 +1,4 @@
--- `whole_effects::memory::print_bytes` meets its contract. `t6` is the line's end, which is one byte.
+-- `whole_effects::memory::print_bytes` is safe and ends. `t6` is the line's end, which is one byte.
 use mathlib.Core.Path.{_≡_}
 use Prim.Native.Nat.{_-_, _≤_}
 use borrow.Author.Needs.{needs}

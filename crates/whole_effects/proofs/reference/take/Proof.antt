@@ -1,4 +1,4 @@
--- `whole_effects::reference::take` meets its contract. The last word's offset is a byte, so that the next one does not wrap.
+-- `whole_effects::reference::take` is safe and ends. The last word's offset is a byte, so that the next one does not wrap.
 use mathlib.Core.Path.{_≡_}
 use Prim.Native.Nat.{_+_, _-_}
 use borrow.Author.Needs.{needs}
