@@ -9,7 +9,7 @@ use borrow.Author.Tests.{eq-eqb, eqb-true, le-ltb}
 use lib.Dec.{eqb, lit<, lit≤}
 use lib.ListN.{length, getD}
 use Rattle.words.specs.Choice.{both, both-yes, both-left, both-right}
-use Rattle.words.specs.Parts.{splice, length-splice, splice-part}
+use Rattle.words.specs.Parts.{part, splice, length-splice}
 use Rattle.words.specs.Words.{bits, AreBytes, le32}
 use Rattle.hcr.specs.declared.HcrCommand.{HcrCommand}
 use Rattle.hcr.specs.declared.ReadAnswer.the-variants as reads
@@ -210,18 +210,18 @@ module _ (h : List ℕ) (bytes : AreBytes h) (long : 28 ≤ length h) (formed-h 
         word-again (le32 0x18 h) (le32-small 24 h long bytes) (both-left _ (eqb (bits 15 0 (le32 0x14 h)) 0) formed-h),
       )
 
-  register-again : splice 0 (registerOf (commandOf h)) h ≡ h
+  register-again : registerOf (commandOf h) ≡ part 0 28 h
   unfolding registerOf
-  register-again = rw (words-again, words-back 7 0 h long bytes) (splice-part 0 28 h long)
+  register-again = rw words-again (words-back 7 0 h long bytes)
 
 -- An op that was read is one that the register holds.
 op-again : (h : List ℕ) → commandOf h .op ≤ 0xfff
 unfolding commandOf bits
 op-again h = omega arith
 
--- "reading well-formed bytes and writing gives the bytes".
-pub read-write : (h : List ℕ) → AreBytes h → 28 ≤ length h → wellFormed h ≡ true
-    → (readOf h ≡ reads.Command (commandOf h)) × (writeOf (commandOf h) h ≡ writes.Done) × (writtenOf (commandOf h) h ≡ h)
-read-write h bytes long f =
-    let a = accepted (commandOf h) h long (op-again h) in
-    (read-formed h long f, a .0, a .1 ∙ register-again h bytes long f)
+-- "reading well-formed bytes and writing gives the bytes": the 28 bytes that were read, at the front of any buffer
+pub read-write : (h out : List ℕ) → AreBytes h → 28 ≤ length h → 28 ≤ length out → wellFormed h ≡ true
+    → (readOf h ≡ reads.Command (commandOf h)) × (writeOf (commandOf h) out ≡ writes.Done) × (writtenOf (commandOf h) out ≡ splice 0 (part 0 28 h) out)
+read-write h out bytes long room f =
+    let a = accepted (commandOf h) out room (op-again h) in
+    (read-formed h long f, a .0, a .1 ∙ ap (λ (r : List ℕ). splice 0 r out) (register-again h bytes long f))
