@@ -48,7 +48,7 @@ use Rattle.rules.specs.Steps.{burstAt, stepOf}
 use Rattle.rules.specs.Collections.{collectOf}
 use Rattle.rules.specs.Whole.{wholeEffect}
 use Rattle.rules.specs.Book.{onRecord}
-use Rattle.rules.specs.Calls.{Call, command, engineRequest, step, collection, resetting, Answer, submitted, stepped, collected, resetDone, accepted, answerOf, worldAfter, noteOf, begins}
+use Rattle.rules.specs.Calls.{Call, command, engineRequest, step, collection, resetting, Answer, submitted, stepped, collected, resetDone, accepted, answerOf, worldAfter, noteOf, isDone, begins, resetEnds}
 
 -- ---- a refusal
 
@@ -195,8 +195,7 @@ abbrev pub empties : Answer → Bool
 empties (submitted a) = false
 empties (stepped a) = false
 empties (collected a out) = false
-empties (resetDone resets.Done) = true
-empties (resetDone (resets.Refused c)) = false
+empties (resetDone a) = resetEnds a
 
 abbrev pub Rows : Type 0
 Rows =
@@ -213,13 +212,10 @@ Emptied =
 
 -- a submission or a reset that is done at once
 abbrev pub atOnce : Answer → Bool
-atOnce (submitted submit.Done) = true
-atOnce (submitted (submit.Accepted k)) = false
-atOnce (submitted (submit.Refused c)) = false
+atOnce (submitted a) = isDone a
 atOnce (stepped a) = false
 atOnce (collected a out) = false
-atOnce (resetDone resets.Done) = true
-atOnce (resetDone (resets.Refused c)) = false
+atOnce (resetDone a) = resetEnds a
 
 abbrev pub Opens : Type 0
 Opens = (w : World) (c : Call) → atOnce (answerOf w c) ≡ false → worldAfter w c .hca ≡ w .hca
