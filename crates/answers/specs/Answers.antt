@@ -4,11 +4,11 @@ use Prim.Native.Nat.{ℕ}
 use Rattle.words.specs.Parts.{part}
 use Rattle.requests.specs.declared.Command.{Command}
 use Rattle.requests.specs.declared.Command.the-variants as command
-use Rattle.requests.specs.declared.Engine.{Engine}
-use Rattle.requests.specs.declared.Engine.the-variants as engine
+use Rattle.requests.specs.declared.EngineRequest.{EngineRequest}
+use Rattle.requests.specs.declared.EngineRequest.the-variants as engine
 use Rattle.requests.specs.declared.Request.{Request}
 use Rattle.requests.specs.declared.Request.the-variants as request
-use Rattle.effects.specs.Fields.{stateOf}
+use Rattle.checks.specs.Fields.{stateOf}
 
 -- "1 byte for request 1 (the state code)"
 unfoldable pub stateAnswer : List ℕ → List ℕ
@@ -30,11 +30,11 @@ commandAnswer (command.ResizeCq n) p = []
 commandAnswer (command.QueryQp n) p = wholeAnswer p
 commandAnswer (command.ModifyQp e n) p = []
 
-abbrev pub engineAnswer : Engine → List ℕ → List ℕ
+abbrev pub engineAnswer : EngineRequest → List ℕ → List ℕ
 engineAnswer (engine.ReadState n) p = stateAnswer p
 engineAnswer (engine.ReadNext n) p = nextAnswer p
 engineAnswer (engine.ReadAll n) p = wholeAnswer p
-engineAnswer (engine.Write w n psn s) p = []
+engineAnswer (engine.Write w s n psn) p = []
 
 abbrev pub answerOf : Request → List ℕ → List ℕ
 answerOf (request.Command c) p = commandAnswer c p
@@ -48,11 +48,11 @@ commandAnswerSize (command.ResizeCq n) = 0
 commandAnswerSize (command.QueryQp n) = 256
 commandAnswerSize (command.ModifyQp e n) = 0
 
-abbrev pub engineAnswerSize : Engine → ℕ
+abbrev pub engineAnswerSize : EngineRequest → ℕ
 engineAnswerSize (engine.ReadState n) = 1
 engineAnswerSize (engine.ReadNext n) = 4
 engineAnswerSize (engine.ReadAll n) = 256
-engineAnswerSize (engine.Write w n psn s) = 0
+engineAnswerSize (engine.Write w s n psn) = 0
 
 abbrev pub answerSize : Request → ℕ
 answerSize (request.Command c) = commandAnswerSize c

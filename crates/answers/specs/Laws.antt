@@ -10,12 +10,12 @@ use Rattle.words.specs.Words.{bits, AreBytes, be32, beBytes}
 use Rattle.words.specs.Leaves.{le-four, part-four, be32-is}
 use Rattle.requests.specs.declared.Command.{Command}
 use Rattle.requests.specs.declared.Command.the-variants as command
-use Rattle.requests.specs.declared.Engine.{Engine}
-use Rattle.requests.specs.declared.Engine.the-variants as engine
+use Rattle.requests.specs.declared.EngineRequest.{EngineRequest}
+use Rattle.requests.specs.declared.EngineRequest.the-variants as engine
 use Rattle.requests.specs.declared.Request.{Request}
 use Rattle.requests.specs.declared.Request.the-variants as request
 use Rattle.burst_table.specs.Bursts.{burstsFrom, commandBursts, engineBursts, burstsOf}
-use Rattle.effects.specs.Fields.{stateOf}
+use Rattle.checks.specs.Fields.{stateOf}
 use Rattle.burst_table.specs.Touched.{Touched, all-touched}
 use Rattle.answers.specs.Answers.{stateAnswer, nextAnswer, wholeAnswer, commandAnswer, engineAnswer, answerOf, commandAnswerSize, engineAnswerSize, answerSize}
 
@@ -27,12 +27,12 @@ length-command (command.ResizeCq n) p h = refl
 length-command (command.QueryQp n) p h = length-part 0 256 p h
 length-command (command.ModifyQp e n) p h = refl
 
-length-engine : (e : Engine) (p : List ℕ) → 256 ≤ length p → length (engineAnswer e p) ≡ engineAnswerSize e
+length-engine : (e : EngineRequest) (p : List ℕ) → 256 ≤ length p → length (engineAnswer e p) ≡ engineAnswerSize e
 unfolding stateAnswer nextAnswer wholeAnswer
 length-engine (engine.ReadState n) p h = refl
 length-engine (engine.ReadNext n) p h = ap suc (length-part 0x6d 3 p (omega arith))
 length-engine (engine.ReadAll n) p h = length-part 0 256 p h
-length-engine (engine.Write w n psn s) p h = refl
+length-engine (engine.Write w s n psn) p h = refl
 
 -- an answer has the length that the table gives
 pub length-answer : (q : Request) (p : List ℕ) → 256 ≤ length p → length (answerOf q p) ≡ answerSize q
@@ -83,12 +83,12 @@ command-agrees (command.ResizeCq n) p c h k a = refl
 command-agrees (command.QueryQp n) p c h k a = whole-agrees p c h k a
 command-agrees (command.ModifyQp e n) p c h k a = refl
 
-engine-agrees : (e : Engine) (p c : List ℕ) → 256 ≤ length p → 256 ≤ length c → AgreeOn (engineBursts e) p c → engineAnswer e p ≡ engineAnswer e c
+engine-agrees : (e : EngineRequest) (p c : List ℕ) → 256 ≤ length p → 256 ≤ length c → AgreeOn (engineBursts e) p c → engineAnswer e p ≡ engineAnswer e c
 unfolding stateAnswer
 engine-agrees (engine.ReadState n) p c h k a = rw (state-agrees [] p c a)
 engine-agrees (engine.ReadNext n) p c h k a = next-agrees p c h k a
 engine-agrees (engine.ReadAll n) p c h k a = whole-agrees p c h k a
-engine-agrees (engine.Write w n psn s) p c h k a = refl
+engine-agrees (engine.Write w s n psn) p c h k a = refl
 
 -- an answer depends only on the bytes that the request's bursts moved
 pub answer-agrees : (q : Request) (p c : List ℕ) → 256 ≤ length p → 256 ≤ length c → AgreeOn (burstsOf q) p c → answerOf q p ≡ answerOf q c

@@ -1,7 +1,7 @@
 // The answer that collecting a request writes, read from the slot's part of the room. Every function
 // here is a leaf: its callers have tested the lengths.
 use requests::Command;
-use requests::Engine;
+use requests::EngineRequest;
 use requests::Request;
 ghost use mathlib.Core.Path.{_≡_};
 ghost use Prim.Native.Nat.{_≤_};
@@ -21,14 +21,14 @@ fn command_answer_size(command: Command) -> usize
     }
 }
 
-fn engine_answer_size(engine: Engine) -> usize
+fn engine_answer_size(engine: EngineRequest) -> usize
     ensures { λ r. ⌜ r ≡ engineAnswerSize engine ⌝ }
 {
     match engine {
-        Engine::ReadState(_) => 1,
-        Engine::ReadNext(_) => 4,
-        Engine::ReadAll(_) => 256,
-        Engine::Write(_, _, _, _) => 0,
+        EngineRequest::ReadState(_) => 1,
+        EngineRequest::ReadNext(_) => 4,
+        EngineRequest::ReadAll(_) => 256,
+        EngineRequest::Write(_, _, _, _) => 0,
     }
 }
 
@@ -47,7 +47,7 @@ fn state_answer(room: &[u8], out: &mut [u8])
     requires { ⌜ (256 ≤ length (now room)) × (1 ≤ length (now out)) ⌝ }
     ensures { λ _. ⌜ now (out .exit) ≡ splice 0 (stateAnswer (now (room .entry))) (now (out .entry)) ⌝ }
 {
-    out[0] = effects::state_code(room);
+    out[0] = checks::state_code(room);
 }
 
 // The state code, then the next PSN, high byte first: as it stands in its word.
@@ -55,7 +55,7 @@ fn next_answer(room: &[u8], out: &mut [u8])
     requires { ⌜ (256 ≤ length (now room)) × (4 ≤ length (now out)) ⌝ }
     ensures { λ _. ⌜ now (out .exit) ≡ splice 0 (nextAnswer (now (room .entry))) (now (out .entry)) ⌝ }
 {
-    out[0] = effects::state_code(room);
+    out[0] = checks::state_code(room);
     words::copy_to(&room[0x6d..0x70], out, 1);
 }
 
@@ -80,15 +80,15 @@ fn command_answer(command: Command, room: &[u8], out: &mut [u8])
     }
 }
 
-fn engine_answer(engine: Engine, room: &[u8], out: &mut [u8])
+fn engine_answer(engine: EngineRequest, room: &[u8], out: &mut [u8])
     requires { ⌜ (256 ≤ length (now room)) × (engineAnswerSize engine ≤ length (now out)) ⌝ }
     ensures { λ _. ⌜ now (out .exit) ≡ splice 0 (engineAnswer engine (now (room .entry))) (now (out .entry)) ⌝ }
 {
     match engine {
-        Engine::ReadState(_) => state_answer(room, out),
-        Engine::ReadNext(_) => next_answer(room, out),
-        Engine::ReadAll(_) => whole_answer(room, out),
-        Engine::Write(_, _, _, _) => {}
+        EngineRequest::ReadState(_) => state_answer(room, out),
+        EngineRequest::ReadNext(_) => next_answer(room, out),
+        EngineRequest::ReadAll(_) => whole_answer(room, out),
+        EngineRequest::Write(_, _, _, _) => {}
     }
 }
 

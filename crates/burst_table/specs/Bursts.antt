@@ -7,10 +7,10 @@ use native.Mathlib.Omega.{arith}
 use lib.ListN.{length, getD}
 use Rattle.requests.specs.declared.Command.{Command}
 use Rattle.requests.specs.declared.Command.the-variants as command
-use Rattle.requests.specs.declared.Psn.{Psn}
-use Rattle.requests.specs.declared.Psn.the-variants.{NextSend, LastAcked, Expected}
-use Rattle.requests.specs.declared.Engine.{Engine}
-use Rattle.requests.specs.declared.Engine.the-variants as engine
+use Rattle.requests.specs.declared.PsnField.{PsnField}
+use Rattle.requests.specs.declared.PsnField.the-variants.{NextSend, LastAcked, Expected}
+use Rattle.requests.specs.declared.EngineRequest.{EngineRequest}
+use Rattle.requests.specs.declared.EngineRequest.the-variants as engine
 use Rattle.requests.specs.declared.Request.{Request}
 use Rattle.requests.specs.declared.Request.the-variants as request
 
@@ -19,7 +19,7 @@ abbrev pub burstSize : ℕ
 burstSize = 16
 
 -- "next_send_psn 6Ch, last_acked_psn 7Ch, 84h (.. expected PSN in 23:0)"
-abbrev pub psnPlace : Psn → ℕ
+abbrev pub psnPlace : PsnField → ℕ
 psnPlace NextSend = 0x6c
 psnPlace LastAcked = 0x7c
 psnPlace Expected = 0x84
@@ -38,14 +38,14 @@ commandBursts (command.ResizeCq n) = burstsFrom 0 4
 commandBursts (command.QueryQp n) = burstsFrom 0 16
 commandBursts (command.ModifyQp e n) = burstsFrom 0 16
 
-abbrev pub psnBursts : Psn → List ℕ
+abbrev pub psnBursts : PsnField → List ℕ
 psnBursts p = 0 ∷ psnPlace p / burstSize ∷ []
 
-abbrev pub engineBursts : Engine → List ℕ
+abbrev pub engineBursts : EngineRequest → List ℕ
 engineBursts (engine.ReadState n) = 0 ∷ []
 engineBursts (engine.ReadNext n) = psnBursts NextSend
 engineBursts (engine.ReadAll n) = burstsFrom 0 16
-engineBursts (engine.Write p n psn s) = psnBursts p
+engineBursts (engine.Write p s n psn) = psnBursts p
 
 abbrev pub burstsOf : Request → List ℕ
 burstsOf (request.Command c) = commandBursts c
@@ -55,7 +55,7 @@ burstsOf (request.Engine e) = engineBursts e
 abbrev pub commandTotal : Command → ℕ
 commandTotal c = length (commandBursts c)
 
-abbrev pub engineTotal : Engine → ℕ
+abbrev pub engineTotal : EngineRequest → ℕ
 engineTotal e = length (engineBursts e)
 
 abbrev pub totalOf : Request → ℕ
@@ -64,10 +64,10 @@ totalOf (request.Engine e) = engineTotal e
 
 -- the offset of burst m in the record, and so in the slot's part of the room: "A read burst is copied to the offset in that
 -- part which it has in the record."
-abbrev pub psnOffset : Psn → ℕ → ℕ
+abbrev pub psnOffset : PsnField → ℕ → ℕ
 psnOffset p m = getD (psnBursts p) m 0 * burstSize
 
-abbrev pub engineOffset : Engine → ℕ → ℕ
+abbrev pub engineOffset : EngineRequest → ℕ → ℕ
 engineOffset e m = getD (engineBursts e) m 0 * burstSize
 
 abbrev pub commandOffset : Command → ℕ → ℕ
@@ -87,10 +87,10 @@ at-burst s (suc n) (suc m) h = at-burst (suc s) n m (omega arith) ∙ suc-add s 
 pub whole-offset : (n m : ℕ) → m < n → m * burstSize ≡ getD (burstsFrom 0 n) m 0 * burstSize
 whole-offset n m h = ap (λ (k : ℕ). k * burstSize) (sym (at-burst 0 n m h ∙ zero-add m))
 
-pub psn-first : (p : Psn) (m : ℕ) → m ≡ 0 → 0 ≡ psnOffset p m
+pub psn-first : (p : PsnField) (m : ℕ) → m ≡ 0 → 0 ≡ psnOffset p m
 psn-first p m e = rw e
 
-pub psn-second : (p : Psn) (m : ℕ) → m < 2 → (m ≡ 0 → ⊥) → psnPlace p / 16 * 16 ≡ psnOffset p m
+pub psn-second : (p : PsnField) (m : ℕ) → m < 2 → (m ≡ 0 → ⊥) → psnPlace p / 16 * 16 ≡ psnOffset p m
 psn-second p m h n = let e : m ≡ 1 = omega arith in rw e
 
 pub read-offset : (m : ℕ) → m < 1 → 0 ≡ getD (0 ∷ []) m 0 * burstSize

@@ -2,7 +2,7 @@
 use Prim.Native.Nat.{_≤_}
 use lib.Dec.{lit≤}
 use Rattle.requests.specs.declared.Command.the-variants as command
-use Rattle.requests.specs.declared.Engine.the-variants as engine
+use Rattle.requests.specs.declared.EngineRequest.the-variants as engine
 use Rattle.requests.specs.declared.Request.{Request}
 use Rattle.requests.specs.declared.Request.the-variants as request
 use Rattle.burst_table.specs.Bursts.{totalOf}
@@ -17,4 +17,4 @@ total-positive (request.Command (command.ModifyQp e n)) = lit≤ tt
 total-positive (request.Engine (engine.ReadState n)) = lit≤ tt
 total-positive (request.Engine (engine.ReadNext n)) = lit≤ tt
 total-positive (request.Engine (engine.ReadAll n)) = lit≤ tt
-total-positive (request.Engine (engine.Write p n psn s)) = lit≤ tt
+total-positive (request.Engine (engine.Write p s n psn)) = lit≤ tt

@@ -1,20 +1,20 @@
 // The burst table: how many bursts a request moves, and where each of them lies.
 use requests::Command;
-use requests::Engine;
-use requests::Psn;
+use requests::EngineRequest;
+use requests::PsnField;
 use requests::Request;
 ghost use mathlib.Core.Path.{_≡_};
 ghost use Prim.Native.Nat.{_*_, _<_};
 ghost use Rattle.burst_table.specs.Bursts.{burstSize, psnPlace, commandTotal, engineTotal, totalOf, psnOffset, engineOffset, commandOffset, offsetOf};
 
 // Where a PSN's word starts in a queue pair's record.
-pub fn psn_place(which: Psn) -> usize
+pub fn psn_place(which: PsnField) -> usize
     ensures { λ r. ⌜ r ≡ psnPlace which ⌝ }
 {
     match which {
-        Psn::NextSend => 0x6c,
-        Psn::LastAcked => 0x7c,
-        Psn::Expected => 0x84,
+        PsnField::NextSend => 0x6c,
+        PsnField::LastAcked => 0x7c,
+        PsnField::Expected => 0x84,
     }
 }
 
@@ -30,14 +30,14 @@ fn command_total(command: Command) -> u8
     }
 }
 
-fn engine_total(engine: Engine) -> u8
+fn engine_total(engine: EngineRequest) -> u8
     ensures { λ r. ⌜ r ≡ engineTotal engine ⌝ }
 {
     match engine {
-        Engine::ReadState(_) => 1,
-        Engine::ReadNext(_) => 2,
-        Engine::ReadAll(_) => 16,
-        Engine::Write(_, _, _, _) => 2,
+        EngineRequest::ReadState(_) => 1,
+        EngineRequest::ReadNext(_) => 2,
+        EngineRequest::ReadAll(_) => 16,
+        EngineRequest::Write(_, _, _, _) => 2,
     }
 }
 
@@ -59,7 +59,7 @@ fn whole_offset(m: u8) -> usize
 }
 
 // The state's burst, then the PSN's.
-fn psn_offset(which: Psn, m: u8) -> usize
+fn psn_offset(which: PsnField, m: u8) -> usize
     requires { ⌜ m < 2 ⌝ }
     ensures { λ r. ⌜ r ≡ psnOffset which m ⌝ }
 {
@@ -69,15 +69,15 @@ fn psn_offset(which: Psn, m: u8) -> usize
     psn_place(which) / 16 * 16
 }
 
-fn engine_offset(engine: Engine, m: u8) -> usize
+fn engine_offset(engine: EngineRequest, m: u8) -> usize
     requires { ⌜ m < engineTotal engine ⌝ }
     ensures { λ r. ⌜ r ≡ engineOffset engine m ⌝ }
 {
     match engine {
-        Engine::ReadState(_) => 0,
-        Engine::ReadNext(_) => psn_offset(Psn::NextSend, m),
-        Engine::ReadAll(_) => whole_offset(m),
-        Engine::Write(which, _, _, _) => psn_offset(which, m),
+        EngineRequest::ReadState(_) => 0,
+        EngineRequest::ReadNext(_) => psn_offset(PsnField::NextSend, m),
+        EngineRequest::ReadAll(_) => whole_offset(m),
+        EngineRequest::Write(which, _, _, _) => psn_offset(which, m),
     }
 }
 

@@ -12,15 +12,15 @@ use Rattle.context.specs.Layout.{recordSize}
 use Rattle.edges.specs.States.{stateCode}
 use Rattle.edges.specs.Edges.{toOf}
 use Rattle.edges.specs.declared.State.{State}
-use Rattle.requests.specs.declared.Psn.{Psn}
-use Rattle.requests.specs.declared.Psn.the-variants.{NextSend, LastAcked, Expected}
+use Rattle.requests.specs.declared.PsnField.{PsnField}
+use Rattle.requests.specs.declared.PsnField.the-variants.{NextSend, LastAcked, Expected}
 use Rattle.requests.specs.declared.Owned.{Owned}
 use Rattle.requests.specs.declared.Owned.the-variants as owned
 use Rattle.requests.specs.declared.Command.the-variants as command
-use Rattle.requests.specs.declared.Engine.the-variants as engine
+use Rattle.requests.specs.declared.EngineRequest.the-variants as engine
 use Rattle.requests.specs.declared.Request.{Request}
 use Rattle.requests.specs.declared.Request.the-variants as request
-use Rattle.tables.specs.Records.{ownedRecord, recordOf}
+use Rattle.request_table.specs.Records.{ownedRecord, recordOf}
 use Rattle.burst_table.specs.Bursts.{psnPlace, burstsFrom, psnBursts, burstsOf}
 use Rattle.burst_table.specs.Touched.{Inside, Touched, all-touched}
 use Rattle.bursts.specs.Bursts.{burst, after, burst-in, after-whole}
@@ -38,12 +38,12 @@ unfolding withState
 state-kept s i b x = rw (ne-eqb i 0 x)
 
 -- the three bytes of a PSN lie in the burst of its word
-psn-inside : (p : Psn) (i : ℕ) → psnPlace p ≤ i → i ≤ psnPlace p + 3 → Inside i (psnPlace p / 16)
+psn-inside : (p : PsnField) (i : ℕ) → psnPlace p ≤ i → i ≤ psnPlace p + 3 → Inside i (psnPlace p / 16)
 psn-inside NextSend i h k = (omega arith, omega arith)
 psn-inside LastAcked i h k = (omega arith, omega arith)
 psn-inside Expected i h k = (omega arith, omega arith)
 
-write-kept : (p : Psn) (psn : ℕ) (s : State) (i b : ℕ) → ¬ Touched i (psnBursts p) → writeByte p psn s i b ≡ b
+write-kept : (p : PsnField) (psn : ℕ) (s : State) (i b : ℕ) → ¬ Touched i (psnBursts p) → writeByte p psn s i b ≡ b
 unfolding writeByte
 write-kept p psn s i b n =
     state-kept s i (psnByte (psnPlace p) psn i b) front
@@ -69,7 +69,7 @@ byte-kept (request.Command (command.ModifyQp e m)) mail i b h n = absurd (n (all
 byte-kept (request.Engine (engine.ReadState m)) mail i b h n = refl
 byte-kept (request.Engine (engine.ReadNext m)) mail i b h n = refl
 byte-kept (request.Engine (engine.ReadAll m)) mail i b h n = refl
-byte-kept (request.Engine (engine.Write p m psn s)) mail i b h n = write-kept p psn s i b n
+byte-kept (request.Engine (engine.Write p s m psn)) mail i b h n = write-kept p psn s i b n
 
 -- all the bursts of a request, each from what stands there, are its whole effect on the record c
 pub writes-whole : (q : Request) (mail c : List ℕ) → length c ≡ recordSize (recordOf q)
@@ -87,7 +87,7 @@ Sets (request.Command (command.ModifyQp e n)) s = toOf e ≡ s
 Sets (request.Engine (engine.ReadState n)) s = ⊥
 Sets (request.Engine (engine.ReadNext n)) s = ⊥
 Sets (request.Engine (engine.ReadAll n)) s = ⊥
-Sets (request.Engine (engine.Write p n psn t)) s = t ≡ s
+Sets (request.Engine (engine.Write p t n psn)) s = t ≡ s
 
 pub state-after : (q : Request) (s : State) → Sets q s → (mail : List ℕ) (b : ℕ) → byteOf q mail 0 b / 16 ≡ stateCode s
 state-after (request.Command (command.Sw2Hw o)) s x mail b = absurd x
@@ -98,7 +98,7 @@ state-after (request.Command (command.ModifyQp e n)) s x mail b = edge-state e m
 state-after (request.Engine (engine.ReadState n)) s x mail b = absurd x
 state-after (request.Engine (engine.ReadNext n)) s x mail b = absurd x
 state-after (request.Engine (engine.ReadAll n)) s x mail b = absurd x
-state-after (request.Engine (engine.Write p n psn t)) s x mail b = write-state p psn t b ∙ ap stateCode x
+state-after (request.Engine (engine.Write p t n psn)) s x mail b = write-state p psn t b ∙ ap stateCode x
 
 -- the record's state is set by the first burst
 pub state-first : (q : Request) (s : State) → Sets q s → (mail c : List ℕ) → 16 ≤ length c

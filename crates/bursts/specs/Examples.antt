@@ -6,14 +6,14 @@ use Rattle.words.specs.Maps.{mapFrom}
 use Rattle.words.specs.Words.{beValue, beBytes}
 use Rattle.context.specs.declared.QpNumber.{QpNumber}
 use Rattle.edges.specs.declared.State.{State}
-use Rattle.requests.specs.declared.Psn.the-variants.{Expected}
-use Rattle.requests.specs.declared.Engine.the-variants as engine
+use Rattle.requests.specs.declared.PsnField.the-variants.{Expected}
+use Rattle.requests.specs.declared.EngineRequest.the-variants as engine
 use Rattle.requests.specs.declared.Request.the-variants as request
 use Rattle.byte_rule.specs.Bytes.{withState, psnByte, writeByte}
 use Rattle.bursts.specs.Moves.{writtenPart}
 
 -- "P12 word 84h 0x07000010, expected PSN 0x20 written: 0x07000020."
 pub p12 : (n : QpNumber) (s : State) (mail : List ℕ)
-    → beValue (writtenPart (request.Engine (engine.Write Expected n 0x20 s)) mail 0x84 (beBytes 4 0x07000010)) ≡ 0x07000020
+    → beValue (writtenPart (request.Engine (engine.Write Expected s n 0x20)) mail 0x84 (beBytes 4 0x07000010)) ≡ 0x07000020
 unfolding beValue beBytes writtenPart mapFrom writeByte withState psnByte
 p12 n s mail = refl

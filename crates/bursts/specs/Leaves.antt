@@ -7,7 +7,7 @@ use lib.ListN.{length, take, drop}
 use Rattle.words.specs.Parts.{part, splice, length-part, lent-splice}
 use Rattle.words.specs.Maps.{length-mapFrom}
 use Rattle.requests.specs.declared.Request.{Request}
-use Rattle.tables.specs.Mailboxes.{needOf}
+use Rattle.request_table.specs.Mailboxes.{needOf}
 use Rattle.byte_rule.specs.Bytes.{byteOf}
 use Rattle.bursts.specs.Moves.{writtenPart, writeAt, copyAt}
 

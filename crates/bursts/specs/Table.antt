@@ -10,17 +10,17 @@ use lib.ListN.{length, getD}
 use Rattle.context.specs.Layout.{recordSize}
 use Rattle.edges.specs.declared.Edge.{Edge}
 use Rattle.edges.specs.declared.Edge.the-variants.{ResetToInit, InitToInit, InitToRtr, RtrToRts, RtsToRts, SqeToRts, RtsToSqd, SqdToSqd, SqdToRts, ToErr, ToReset}
-use Rattle.requests.specs.declared.Psn.{Psn}
-use Rattle.requests.specs.declared.Psn.the-variants.{NextSend, LastAcked, Expected}
+use Rattle.requests.specs.declared.PsnField.{PsnField}
+use Rattle.requests.specs.declared.PsnField.the-variants.{NextSend, LastAcked, Expected}
 use Rattle.requests.specs.declared.Owned.{Owned}
 use Rattle.requests.specs.declared.Owned.the-variants as owned
 use Rattle.requests.specs.declared.Command.the-variants as command
-use Rattle.requests.specs.declared.Engine.the-variants as engine
+use Rattle.requests.specs.declared.EngineRequest.the-variants as engine
 use Rattle.requests.specs.declared.Request.{Request}
 use Rattle.requests.specs.declared.Request.the-variants as request
-use Rattle.tables.specs.Records.{ownedRecord, recordOf, writesOf}
-use Rattle.tables.specs.Mailboxes.{storedOf, edgeNeed, needOf}
-use Rattle.tables.specs.Sizes.{owned-size}
+use Rattle.request_table.specs.Records.{ownedRecord, recordOf, writesOf}
+use Rattle.request_table.specs.Mailboxes.{storedOf, edgeNeed, needOf}
+use Rattle.request_table.specs.Sizes.{owned-size}
 use Rattle.burst_table.specs.Bursts.{burstsFrom, psnBursts, burstsOf, totalOf, offsetOf}
 use Rattle.bursts.specs.Bursts.{Fit, Fresh, Distinct, fit-at}
 
@@ -38,12 +38,12 @@ row-once s zero = tt
 row-once s (suc n) = (row-fresh s (suc s) n (omega arith), row-once (suc s) n)
 
 -- The state's burst and the PSN's.
-psn-fit : (p : Psn) → Fit 256 (psnBursts p)
+psn-fit : (p : PsnField) → Fit 256 (psnBursts p)
 psn-fit NextSend = (lit≤ tt, (lit≤ tt, tt))
 psn-fit LastAcked = (lit≤ tt, (lit≤ tt, tt))
 psn-fit Expected = (lit≤ tt, (lit≤ tt, tt))
 
-psn-once : (p : Psn) → Distinct (psnBursts p)
+psn-once : (p : PsnField) → Distinct (psnBursts p)
 psn-once NextSend = (((λ e. omega (arith, e)), tt), (tt, tt))
 psn-once LastAcked = (((λ e. omega (arith, e)), tt), (tt, tt))
 psn-once Expected = (((λ e. omega (arith, e)), tt), (tt, tt))
@@ -58,7 +58,7 @@ bursts-fit (request.Command (command.ModifyQp e n)) = row-fit 0 16 256 (lit≤ t
 bursts-fit (request.Engine (engine.ReadState n)) = (lit≤ tt, tt)
 bursts-fit (request.Engine (engine.ReadNext n)) = psn-fit NextSend
 bursts-fit (request.Engine (engine.ReadAll n)) = row-fit 0 16 256 (lit≤ tt)
-bursts-fit (request.Engine (engine.Write p n psn s)) = psn-fit p
+bursts-fit (request.Engine (engine.Write p s n psn)) = psn-fit p
 
 fit-more : (n m : ℕ) (js : List ℕ) → n ≤ m → Fit n js → Fit m js
 fit-more n m [] h f = tt
@@ -73,7 +73,7 @@ record-small (request.Command (command.ModifyQp e n)) = lit≤ tt
 record-small (request.Engine (engine.ReadState n)) = lit≤ tt
 record-small (request.Engine (engine.ReadNext n)) = lit≤ tt
 record-small (request.Engine (engine.ReadAll n)) = lit≤ tt
-record-small (request.Engine (engine.Write p n psn s)) = lit≤ tt
+record-small (request.Engine (engine.Write p s n psn)) = lit≤ tt
 
 -- a slot's part of the room has 256 bytes
 pub bursts-room : (q : Request) → Fit 256 (burstsOf q)
@@ -88,7 +88,7 @@ bursts-once (request.Command (command.ModifyQp e n)) = row-once 0 16
 bursts-once (request.Engine (engine.ReadState n)) = (tt, tt)
 bursts-once (request.Engine (engine.ReadNext n)) = psn-once NextSend
 bursts-once (request.Engine (engine.ReadAll n)) = row-once 0 16
-bursts-once (request.Engine (engine.Write p n psn s)) = psn-once p
+bursts-once (request.Engine (engine.Write p s n psn)) = psn-once p
 
 -- total and offset, by the list of bursts
 pub total-bursts : (q : Request) → totalOf q ≡ length (burstsOf q)

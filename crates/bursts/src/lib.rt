@@ -5,7 +5,7 @@ ghost use mathlib.Core.Path.{_≡_};
 ghost use lib.ListN.{length};
 ghost use Prim.Native.Nat.{_+_, _≤_};
 ghost use Rattle.words.specs.Parts.{part};
-ghost use Rattle.tables.specs.Mailboxes.{needOf};
+ghost use Rattle.request_table.specs.Mailboxes.{needOf};
 ghost use Rattle.bursts.specs.Moves.{writtenPart, writeAt, copyAt};
 
 // Changes a part of a record, which starts at offset `first` of it, as the request does.
@@ -47,7 +47,7 @@ pub fn write_at(
     ensures { λ _. ⌜ now (store .exit) ≡ writeAt request (part base (needOf request) (now (room .entry))) at first (now (store .entry)) ⌝ }
 {
     let end = at + 16;
-    let stop = base + tables::need(request);
+    let stop = base + request_table::need(request);
     write_burst(&mut store[at..end], &room[base..stop], request, first);
 }
 

@@ -8,17 +8,17 @@ use Rattle.edges.specs.States.{stateCode}
 use Rattle.edges.specs.Edges.{toOf}
 use Rattle.edges.specs.declared.State.{State}
 use Rattle.edges.specs.declared.Edge.{Edge}
-use Rattle.requests.specs.declared.Psn.{Psn}
+use Rattle.requests.specs.declared.PsnField.{PsnField}
 use Rattle.requests.specs.declared.Owned.{Owned}
 use Rattle.requests.specs.declared.Command.{Command}
 use Rattle.requests.specs.declared.Command.the-variants as command
-use Rattle.requests.specs.declared.Engine.{Engine}
-use Rattle.requests.specs.declared.Engine.the-variants as engine
+use Rattle.requests.specs.declared.EngineRequest.{EngineRequest}
+use Rattle.requests.specs.declared.EngineRequest.the-variants as engine
 use Rattle.requests.specs.declared.Request.{Request}
 use Rattle.requests.specs.declared.Request.the-variants as request
-use Rattle.tables.specs.Mailboxes.{storedOf}
+use Rattle.request_table.specs.Mailboxes.{storedOf}
 use Rattle.burst_table.specs.Bursts.{psnPlace}
-use Rattle.byte_rule.specs.Taken.{takes, wordOf, zeroes}
+use Rattle.byte_rule.specs.Taken.{takesWord, wordOf, zeroes}
 
 -- "the state is set": bits 31:28 of word 00h, the top half of byte 0
 unfoldable pub withState : State → ℕ → ℕ → ℕ
@@ -26,7 +26,7 @@ withState s i b = pick (eqb i 0) (stateCode s * 16 + b % 16) b
 
 -- "Only the words named are taken; .. the rest of the record stays."
 unfoldable pub takenByte : Edge → List ℕ → ℕ → ℕ → ℕ
-takenByte e image i old = pick (takes e (wordOf i)) (getD image i 0) old
+takenByte e image i old = pick (takesWord e (wordOf i)) (getD image i 0) old
 
 -- the state is set after the words are taken, so "the image's state bits [are] not read"
 unfoldable pub edgeByte : Edge → List ℕ → ℕ → ℕ → ℕ
@@ -49,7 +49,7 @@ psnByte at psn i old =
     old))
 
 -- "3 write next PSN and state; 4 write last acked PSN and state; 5 write expected PSN and state"
-unfoldable pub writeByte : Psn → ℕ → State → ℕ → ℕ → ℕ
+unfoldable pub writeByte : PsnField → ℕ → State → ℕ → ℕ → ℕ
 writeByte p psn s i old = withState s i (psnByte (psnPlace p) psn i old)
 
 abbrev pub commandByte : Command → List ℕ → ℕ → ℕ → ℕ
@@ -60,11 +60,11 @@ commandByte (command.ResizeCq n) mail i old = resizeByte mail i old
 commandByte (command.QueryQp n) mail i old = old
 commandByte (command.ModifyQp e n) mail i old = edgeByte e mail i old
 
-abbrev pub engineByte : Engine → ℕ → ℕ → ℕ
+abbrev pub engineByte : EngineRequest → ℕ → ℕ → ℕ
 engineByte (engine.ReadState n) i old = old
 engineByte (engine.ReadNext n) i old = old
 engineByte (engine.ReadAll n) i old = old
-engineByte (engine.Write p n psn s) i old = writeByte p psn s i old
+engineByte (engine.Write p s n psn) i old = writeByte p psn s i old
 
 abbrev pub byteOf : Request → List ℕ → ℕ → ℕ → ℕ
 byteOf (request.Command c) mail i old = commandByte c mail i old

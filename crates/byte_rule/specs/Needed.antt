@@ -14,12 +14,12 @@ use Rattle.edges.specs.declared.State.{State}
 use Rattle.edges.specs.declared.State.the-variants.{Reset, Init, Rtr, Rts, Sqe, Sqd, Err}
 use Rattle.edges.specs.declared.Edge.{Edge}
 use Rattle.edges.specs.declared.Edge.the-variants.{ResetToInit, InitToInit, InitToRtr, RtrToRts, RtsToRts, SqeToRts, RtsToSqd, SqdToSqd, SqdToRts, ToErr, ToReset}
-use Rattle.requests.specs.declared.Psn.{Psn}
-use Rattle.requests.specs.declared.Psn.the-variants.{NextSend, LastAcked, Expected}
-use Rattle.tables.specs.Mailboxes.{edgeNeed}
+use Rattle.requests.specs.declared.PsnField.{PsnField}
+use Rattle.requests.specs.declared.PsnField.the-variants.{NextSend, LastAcked, Expected}
+use Rattle.request_table.specs.Mailboxes.{edgeNeed}
 use Rattle.burst_table.specs.Bursts.{psnPlace}
 use Rattle.byte_rule.specs.Bytes.{withState, takenByte, edgeByte}
-use Rattle.byte_rule.specs.Taken.{takes, wordOf, zeroes}
+use Rattle.byte_rule.specs.Taken.{takesWord, wordOf, zeroes}
 
 -- of two tests of which one holds, each bounds the number
 either-at-most : (p q : Bool) (i n : ℕ) → (p ≡ true → i ≤ n) → (q ≡ true → i ≤ n) → either p q ≡ true → i ≤ n
@@ -37,7 +37,7 @@ range-or a b k n w h l t =
     either-at-most (within a b w) (eqb w k) w n (range-at-most a b n w h) (is-at-most w k n l) t
 
 -- a word that is taken ends inside the image
-taken-word : (e : Edge) (w : ℕ) → takes e w ≡ true → w + 4 ≤ edgeNeed e
+taken-word : (e : Edge) (w : ℕ) → takesWord e w ≡ true → w + 4 ≤ edgeNeed e
 taken-word ResetToInit w t = omega (arith, range-at-most 0 0xa0 0xa0 w (omega arith) t)
 taken-word InitToInit w t = omega (arith, range-at-most 4 0x4c 0xa0 w (omega arith) t)
 taken-word InitToRtr w t = omega (arith, range-or 4 0x4c 0x84 0xa0 w (omega arith) (omega arith) t)
@@ -56,11 +56,11 @@ taken-word ToErr w t = absurd (false≢true t)
 taken-word ToReset w t = absurd (false≢true t)
 
 -- a byte of a taken word stands in the image
-pub taken-needed : (e : Edge) (i : ℕ) → takes e (wordOf i) ≡ true → i < edgeNeed e
+pub taken-needed : (e : Edge) (i : ℕ) → takesWord e (wordOf i) ≡ true → i < edgeNeed e
 taken-needed e i t = omega (arith, taken-word e (wordOf i) t)
 
 -- the same with the premises of the code: r is what the test answered, n the length of the lent image
-pub taken-inside : (e : Edge) (i n : ℕ) (r : Bool) → r ≡ takes e (i / 4 * 4) → r ≡ true → edgeNeed e ≤ n → i < n
+pub taken-inside : (e : Edge) (i n : ℕ) (r : Bool) → r ≡ takesWord e (i / 4 * 4) → r ≡ true → edgeNeed e ≤ n → i < n
 taken-inside e i n r p q h = omega (arith, taken-needed e i (sym p ∙ q))
 
 pub told-low : (a b i : ℕ) (r : Bool) → r ≡ within a b i → r ≡ true → a ≤ i
@@ -87,7 +87,7 @@ stateCode-small Sqe = lit< tt
 stateCode-small Sqd = lit< tt
 stateCode-small Err = lit< tt
 
-pub psnPlace-small : (p : Psn) → psnPlace p < 256
+pub psnPlace-small : (p : PsnField) → psnPlace p < 256
 psnPlace-small NextSend = lit< tt
 psnPlace-small LastAcked = lit< tt
 psnPlace-small Expected = lit< tt

@@ -8,7 +8,7 @@ use Rattle.edges.specs.Edges.{toOf}
 use Rattle.edges.specs.declared.State.{State}
 use Rattle.edges.specs.declared.Edge.{Edge}
 use Rattle.edges.specs.declared.Edge.the-variants.{ResetToInit, InitToInit, InitToRtr, RtrToRts, RtsToRts, SqeToRts, RtsToSqd, SqdToSqd, SqdToRts, ToErr, ToReset}
-use Rattle.requests.specs.declared.Psn.{Psn}
+use Rattle.requests.specs.declared.PsnField.{PsnField}
 use Rattle.burst_table.specs.Bursts.{psnPlace}
 use Rattle.byte_rule.specs.Bytes.{withState, takenByte, edgeByte, psnByte, writeByte}
 
@@ -33,6 +33,6 @@ edge-state ToErr mail b = with-state (toOf ToErr) (takenByte ToErr mail 0 b)
 edge-state ToReset mail b = refl
 
 -- an engine write
-pub write-state : (p : Psn) (psn : ℕ) (s : State) (b : ℕ) → writeByte p psn s 0 b / 16 ≡ stateCode s
+pub write-state : (p : PsnField) (psn : ℕ) (s : State) (b : ℕ) → writeByte p psn s 0 b / 16 ≡ stateCode s
 unfolding writeByte
 write-state p psn s b = with-state s (psnByte (psnPlace p) psn 0 b)

@@ -7,18 +7,18 @@ use Rattle.edges.specs.declared.Edge.{Edge}
 use Rattle.edges.specs.declared.Edge.the-variants.{ResetToInit, InitToInit, InitToRtr, RtrToRts, RtsToRts, SqeToRts, RtsToSqd, SqdToSqd, SqdToRts, ToErr, ToReset}
 
 -- The table of edges, column "Words taken": the test is asked of a word's offset.
-abbrev pub takes : Edge → ℕ → Bool
-takes ResetToInit w = within 0x00 0xa0 w
-takes InitToInit w = within 0x04 0x4c w
-takes InitToRtr w = either (within 0x04 0x4c w) (eqb w 0x84)
-takes RtrToRts w = either (within 0x20 0x28 w) (either (eqb w 0x6c) (eqb w 0x7c))
-takes RtsToRts w = within 0x20 0x28 w
-takes SqeToRts w = eqb w 0x98
-takes RtsToSqd w = false
-takes SqdToSqd w = either (within 0x20 0x4c w) (eqb w 0x98)
-takes SqdToRts w = either (within 0x20 0x4c w) (eqb w 0x98)
-takes ToErr w = false
-takes ToReset w = false
+abbrev pub takesWord : Edge → ℕ → Bool
+takesWord ResetToInit w = within 0x00 0xa0 w
+takesWord InitToInit w = within 0x04 0x4c w
+takesWord InitToRtr w = either (within 0x04 0x4c w) (eqb w 0x84)
+takesWord RtrToRts w = either (within 0x20 0x28 w) (either (eqb w 0x6c) (eqb w 0x7c))
+takesWord RtsToRts w = within 0x20 0x28 w
+takesWord SqeToRts w = eqb w 0x98
+takesWord RtsToSqd w = false
+takesWord SqdToSqd w = either (within 0x20 0x4c w) (eqb w 0x98)
+takesWord SqdToRts w = either (within 0x20 0x4c w) (eqb w 0x98)
+takesWord ToErr w = false
+takesWord ToReset w = false
 
 -- the offset of the word that holds byte i
 abbrev pub wordOf : ℕ → ℕ

@@ -3,17 +3,17 @@
 use edges::Edge;
 use edges::State;
 use requests::Command;
-use requests::Engine;
+use requests::EngineRequest;
 use requests::Owned;
-use requests::Psn;
+use requests::PsnField;
 use requests::Request;
 ghost use mathlib.Core.Path.{_≡_};
 ghost use lib.Dec.{eqb};
 ghost use lib.ListN.{length};
 ghost use Prim.Native.Nat.{_≤_, _<_};
 ghost use Rattle.words.specs.Choice.{within, either};
-ghost use Rattle.tables.specs.Mailboxes.{storedOf, edgeNeed, commandNeed, needOf};
-ghost use Rattle.byte_rule.specs.Taken.{takes, zeroes};
+ghost use Rattle.request_table.specs.Mailboxes.{storedOf, edgeNeed, commandNeed, needOf};
+ghost use Rattle.byte_rule.specs.Taken.{takesWord, zeroes};
 ghost use Rattle.byte_rule.specs.Bytes.{withState, takenByte, edgeByte, sw2hwByte, resizeByte, psnByte, writeByte, commandByte, engineByte, byteOf};
 
 // Whether first <= i <= last.
@@ -51,7 +51,7 @@ fn takes_for_sending(w: usize) -> bool
 
 // Whether an edge takes the image's word at offset w.
 fn takes_word(edge: Edge, w: usize) -> bool
-    ensures { λ r. ⌜ r ≡ takes edge w ⌝ }
+    ensures { λ r. ⌜ r ≡ takesWord edge w ⌝ }
 {
     match edge {
         Edge::ResetToInit => in_range(0x00, 0xa0, w),
@@ -123,7 +123,7 @@ fn sw2hw_byte(owned: Owned, image: &[u8], at: usize) -> u8
     requires { ⌜ storedOf owned ≤ length (now image) ⌝ }
     ensures { λ r. ⌜ r ≡ sw2hwByte owned (now (image .entry)) at ⌝ }
 {
-    if at < tables::stored(owned) {
+    if at < request_table::stored(owned) {
         return image[at];
     }
     if at == 63 {
@@ -162,7 +162,7 @@ fn psn_byte(word: usize, psn: u32, at: usize, old: u8) -> u8
     old
 }
 
-fn write_byte(which: Psn, psn: u32, to: State, at: usize, old: u8) -> u8
+fn write_byte(which: PsnField, psn: u32, to: State, at: usize, old: u8) -> u8
     ensures { λ r. ⌜ r ≡ writeByte which psn to at old ⌝ }
 {
     with_state(
@@ -186,14 +186,14 @@ fn command_byte(command: Command, image: &[u8], at: usize, old: u8) -> u8
     }
 }
 
-fn engine_byte(engine: Engine, at: usize, old: u8) -> u8
+fn engine_byte(engine: EngineRequest, at: usize, old: u8) -> u8
     ensures { λ r. ⌜ r ≡ engineByte engine at old ⌝ }
 {
     match engine {
-        Engine::ReadState(_) => old,
-        Engine::ReadNext(_) => old,
-        Engine::ReadAll(_) => old,
-        Engine::Write(which, _, psn, to) => write_byte(which, psn, to, at, old),
+        EngineRequest::ReadState(_) => old,
+        EngineRequest::ReadNext(_) => old,
+        EngineRequest::ReadAll(_) => old,
+        EngineRequest::Write(which, to, _, psn) => write_byte(which, psn, to, at, old),
     }
 }
 

@@ -29,8 +29,8 @@ use Rattle.commands.specs.declared.OpFound.the-variants.{Served, NotServ
 
 -- "INIT_HCA 0x7, CLOSE_HCA 0x8 and NOP 0x31"; "SW2HW for MPT 0xd, EQ 0x13, CQ 0x16"; "HW2SW 0xf, 0x14, 0x17";
 -- "RESIZE_CQ 0x2c"; "QUERY_QP 0x22"; the table of edges, column "Op"; "Other ops, also those that 000 lists, are not served."
-unfoldable pub opOf : ℕ → OpFound
-opOf code =
+unfoldable pub readOp : ℕ → OpFound
+readOp code =
     pick (eqb code 0x07) (Served op.InitHca)
     (pick (eqb code 0x08) (Served op.CloseHca)
     (pick (eqb code 0x31) (Served op.Nop)
@@ -132,5 +132,5 @@ addressed g op.QueryQp n = queryOf (qpOf g n)
 addressed g (op.ModifyQp e) n = modifyOf e (qpOf g n)
 
 -- "op_modifier, in_modifier or index wrong"
-unfoldable pub commandOf : Logs → Op → ℕ → ℕ → CommandFound
-commandOf g o modifier n = pick (eqb modifier (opModifierOf o)) (addressed g o n) found.Wrong
+unfoldable pub readCommand : Logs → Op → ℕ → ℕ → CommandFound
+readCommand g o modifier n = pick (eqb modifier (opModifierOf o)) (addressed g o n) found.Wrong

@@ -10,7 +10,7 @@ use requests::Command;
 use requests::Owned;
 ghost use mathlib.Core.Path.{_≡_};
 ghost use Rattle.context.specs.Numbers.{qpOf, cqOf, eqOf, mptOf};
-ghost use Rattle.commands.specs.Commands.{opOf, edgeModifier, opModifierOf, onMpt, onEq, onCq, ownedOf, atOnce, sw2hwOf, hw2swOf, resizeOf, queryOf, modifyOf, addressed, commandOf};
+ghost use Rattle.commands.specs.Commands.{readOp, edgeModifier, opModifierOf, onMpt, onEq, onCq, ownedOf, atOnce, sw2hwOf, hw2swOf, resizeOf, queryOf, modifyOf, addressed, readCommand};
 
 // The tables whose records have an owner.
 pub enum Table {
@@ -52,7 +52,7 @@ pub enum OwnedFound {
 }
 
 pub fn read_op(code: u16) -> OpFound
-    ensures { λ r. ⌜ r ≡ opOf code ⌝ }
+    ensures { λ r. ⌜ r ≡ readOp code ⌝ }
 {
     match code {
         0x07 => OpFound::Served(Op::InitHca),
@@ -223,7 +223,7 @@ fn on_record(op: Op, logs: Logs, n: u32) -> CommandFound
 
 // The command, or `Wrong` where op_modifier, in_modifier or index is wrong.
 pub fn read_command(op: Op, modifier: u8, n: u32, logs: Logs) -> CommandFound
-    ensures { λ r. ⌜ r ≡ commandOf logs op modifier n ⌝ }
+    ensures { λ r. ⌜ r ≡ readCommand logs op modifier n ⌝ }
 {
     if modifier != op_modifier(op) {
         return CommandFound::Wrong;

@@ -13,8 +13,8 @@ use lib.Pow.{pow-lt, pow-mono}
 use Rattle.words.specs.Choice.{both-left, both-right, by-pick}
 use Rattle.context.specs.Layout.{startOf, inUse, rangesHold, fitsStore}
 use Rattle.context.specs.Init.{logsOf, initRows, initOf}
-use Rattle.context.specs.declared.Init.{Init}
-use Rattle.context.specs.declared.Init.the-variants.{Layout}
+use Rattle.context.specs.declared.InitFound.{InitFound}
+use Rattle.context.specs.declared.InitFound.the-variants.{Layout}
 use Rattle.context.specs.declared.Kind.{Kind}
 use Rattle.context.specs.declared.Kind.the-variants as kind
 use Rattle.context.specs.declared.Logs.{Logs}
@@ -69,8 +69,8 @@ start-small g kind.Mpt h = let s : Small g = small g h in omega arith
 pub init-fits : (mailbox : List ℕ) (store : ℕ) (g : Logs) → initOf mailbox store ≡ Layout g → inUse g ≤ store
 unfolding initOf initRows fitsStore
 init-fits mailbox store g =
-    by-pick (λ (i : Init). i ≡ Layout g → inUse g ≤ store) (ltb (length mailbox) 64) _ _ (λ _ e. let z : _≡_ {A = ℕ} 0 1 = cc in absurd (omega arith))
-    (λ _. by-pick (λ (i : Init). i ≡ Layout g → inUse g ≤ store) (fitsStore (logsOf mailbox) store) _ _
+    by-pick (λ (i : InitFound). i ≡ Layout g → inUse g ≤ store) (ltb (length mailbox) 64) _ _ (λ _ e. let z : _≡_ {A = ℕ} 0 1 = cc in absurd (omega arith))
+    (λ _. by-pick (λ (i : InitFound). i ≡ Layout g → inUse g ≤ store) (fitsStore (logsOf mailbox) store) _ _
     (λ t e. let f : logsOf mailbox ≡ g = cc in
     subst (λ (h : Logs). inUse h ≤ store) f (leb-true (inUse (logsOf mailbox)) store (both-right (rangesHold (logsOf mailbox)) _ t)))
     (λ _ e. let z : _≡_ {A = ℕ} 0 1 = cc in absurd (omega arith)))

@@ -6,8 +6,8 @@ use lib.ListN.{length, getD}
 use Rattle.words.specs.Choice.{pick}
 use Rattle.context.specs.Layout.{fitsStore}
 use Rattle.context.specs.declared.Logs.{Logs}
-use Rattle.context.specs.declared.Init.{Init}
-use Rattle.context.specs.declared.Init.the-variants.{Layout, ShortMailbox, OutOfRange}
+use Rattle.context.specs.declared.InitFound.{InitFound}
+use Rattle.context.specs.declared.InitFound.the-variants.{Layout, ShortMailbox, OutOfRange}
 
 -- "QPs in byte 0Fh .., CQs 17h .., EQs 1Fh .., MPTs 37h"
 unfoldable pub logsOf : List ℕ → Logs
@@ -18,12 +18,12 @@ unfoldable pub initRows : {A : Type 0} → List ℕ → ℕ → A → A → A �
 initRows mailbox store short out-of-range layout =
     pick (ltb (length mailbox) 64) short (pick (fitsStore (logsOf mailbox) store) layout out-of-range)
 
-unfoldable pub initOf : List ℕ → ℕ → Init
+unfoldable pub initOf : List ℕ → ℕ → InitFound
 initOf mailbox store = initRows mailbox store ShortMailbox OutOfRange (Layout (logsOf mailbox))
 
 -- Document 01's number for each answer: "0 means done or accepted"; 0x83: "mailbox shorter than needed"; 3: "INIT_HCA out of range or
 -- larger than the store"
-abbrev pub initNumber : Init → ℕ
-initNumber (Layout g) = 0
-initNumber ShortMailbox = 0x83
-initNumber OutOfRange = 3
+abbrev pub initFoundNumber : InitFound → ℕ
+initFoundNumber (Layout g) = 0
+initFoundNumber ShortMailbox = 0x83
+initFoundNumber OutOfRange = 3

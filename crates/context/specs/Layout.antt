@@ -79,8 +79,8 @@ abbrev pub recordSize : Record → ℕ
 recordSize r = sizeOf (kindOf r)
 
 -- the record's bytes
-unfoldable pub recordOf : Logs → Record → List ℕ → List ℕ
-recordOf g r store = part (recordAt g r) (recordSize r) store
+unfoldable pub bytesOf : Logs → Record → List ℕ → List ℕ
+bytesOf g r store = part (recordAt g r) (recordSize r) store
 
 -- one record: the same kind and the same number
 abbrev pub kindCode : Kind → ℕ

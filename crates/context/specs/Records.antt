@@ -12,7 +12,7 @@ use lib.Dec.{eqb}
 use lib.ListN.{length, getD}
 use Rattle.words.specs.Choice.{both-left, both-right, both-yes}
 use Rattle.words.specs.Parts.{splice, splice-apart, splice-below, splice-above, splice-inside}
-use Rattle.context.specs.Layout.{sizeOf, countOf, startOf, inUse, kindOf, numberOf, kindCode, rangesHold, isRecord, recordAt, recordSize, recordOf, sameRecord}
+use Rattle.context.specs.Layout.{sizeOf, countOf, startOf, inUse, kindOf, numberOf, kindCode, rangesHold, isRecord, recordAt, recordSize, bytesOf, sameRecord}
 use Rattle.context.specs.Counts.{in-use-small}
 use Rattle.context.specs.Tables.{Apart, table-in, table-apart}
 use Rattle.context.specs.declared.Kind.{Kind}
@@ -165,8 +165,8 @@ module _ (g : Logs) (r : Record) (o : ℕ) (ys store : List ℕ) (fits : inUse g
   room = omega (arith, record-inside g r valid)
 
   -- leaves every other record
-  pub record-kept : (s : Record) → isRecord g s ≡ true → ¬ (r ≡ s) → recordOf g s (splice (recordAt g r + o) ys store) ≡ recordOf g s store
-  unfolding recordOf
+  pub record-kept : (s : Record) → isRecord g s ≡ true → ¬ (r ≡ s) → bytesOf g s (splice (recordAt g r + o) ys store) ≡ bytesOf g s store
+  unfolding bytesOf
   record-kept s k n =
       splice-apart (recordAt g r + o) ys store room (recordAt g s) (recordSize s) (omega (arith, record-inside g s k)) (go (records-apart g r s valid k n))
     where
@@ -175,8 +175,8 @@ module _ (g : Logs) (r : Record) (o : ℕ) (ys store : List ℕ) (fits : inUse g
       go (inr h) = inr (omega arith)
 
   -- is replaced in the record
-  pub record-changed : recordOf g r (splice (recordAt g r + o) ys store) ≡ splice o ys (recordOf g r store)
-  unfolding recordOf
+  pub record-changed : bytesOf g r (splice (recordAt g r + o) ys store) ≡ splice o ys (bytesOf g r store)
+  unfolding bytesOf
   record-changed = splice-inside (recordAt g r) (recordSize r) o ys store (omega (arith, record-inside g r valid)) inside
 
   -- and leaves every byte outside the record

@@ -4,7 +4,7 @@ ghost use mathlib.Core.Bool.{true};
 ghost use Prim.Native.Nat.{_^_, _≤_};
 ghost use lib.Dec.{ltb};
 ghost use Rattle.context.specs.Layout.{sizeOf, kindOf, numberOf, logOf, startOf, inUse, rangesHold, fitsStore, isRecord, recordAt, recordSize, kindCode, sameRecord};
-ghost use Rattle.context.specs.Init.{initRows, initOf, initNumber};
+ghost use Rattle.context.specs.Init.{initRows, initOf, initFoundNumber};
 ghost use Rattle.context.specs.Numbers.{qpOf, cqOf, eqOf, mptOf};
 
 // Numbers of the four kinds of record are kept apart: each has a type of its own. One is made by
@@ -41,7 +41,7 @@ pub struct Logs {
 }
 
 // What INIT_HCA's mailbox says.
-pub enum Init {
+pub enum InitFound {
     Layout(Logs),
     ShortMailbox,
     OutOfRange,
@@ -260,11 +260,11 @@ pub fn same_record(a: Record, b: Record) -> bool
 }
 
 // The logarithms of INIT_HCA's mailbox.
-pub fn read_init(mailbox: &[u8], store: usize) -> Init
-    ensures { λ r. ⌜ (r ≡ initOf (now (mailbox .entry)) store) × (initNumber r ≡ initRows (now (mailbox .entry)) store 0x83 3 0) ⌝ }
+pub fn read_init(mailbox: &[u8], store: usize) -> InitFound
+    ensures { λ r. ⌜ (r ≡ initOf (now (mailbox .entry)) store) × (initFoundNumber r ≡ initRows (now (mailbox .entry)) store 0x83 3 0) ⌝ }
 {
     if mailbox.len() < 64 {
-        return Init::ShortMailbox;
+        return InitFound::ShortMailbox;
     }
     let logs = Logs {
         qps: mailbox[0x0f],
@@ -273,7 +273,7 @@ pub fn read_init(mailbox: &[u8], store: usize) -> Init
         mpts: mailbox[0x37],
     };
     if fits_store(logs, store) {
-        return Init::Layout(logs);
+        return InitFound::Layout(logs);
     }
-    Init::OutOfRange
+    InitFound::OutOfRange
 }

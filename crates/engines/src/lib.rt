@@ -4,17 +4,17 @@ use context::Logs;
 use context::QpFound;
 use context::QpNumber;
 use edges::State;
-use requests::Engine;
-use requests::Psn;
+use requests::EngineRequest;
+use requests::PsnField;
 ghost use mathlib.Core.Path.{_≡_};
-ghost use Rattle.engines.specs.Engines.{numberOf, stateFrom, engineWriteOf, engineOn, engineOf};
+ghost use Rattle.engines.specs.Engines.{readNumber, stateFrom, engineWriteOf, engineOn, readEngine};
 
 // The engine requests' numbers that are served.
 pub enum EngineNumber {
     ReadState,
     ReadNext,
     ReadAll,
-    Write(Psn),
+    Write(PsnField),
 }
 
 pub enum NumberFound {
@@ -28,19 +28,19 @@ pub enum StateFound {
 }
 
 pub enum EngineFound {
-    Asked(Engine),
+    OnRecord(EngineRequest),
     Wrong,
 }
 
 pub fn read_number(number: u32) -> NumberFound
-    ensures { λ r. ⌜ r ≡ numberOf number ⌝ }
+    ensures { λ r. ⌜ r ≡ readNumber number ⌝ }
 {
     match number {
         1 => NumberFound::Served(EngineNumber::ReadState),
         2 => NumberFound::Served(EngineNumber::ReadNext),
-        3 => NumberFound::Served(EngineNumber::Write(Psn::NextSend)),
-        4 => NumberFound::Served(EngineNumber::Write(Psn::LastAcked)),
-        5 => NumberFound::Served(EngineNumber::Write(Psn::Expected)),
+        3 => NumberFound::Served(EngineNumber::Write(PsnField::NextSend)),
+        4 => NumberFound::Served(EngineNumber::Write(PsnField::LastAcked)),
+        5 => NumberFound::Served(EngineNumber::Write(PsnField::Expected)),
         6 => NumberFound::Served(EngineNumber::ReadAll),
         _ => NumberFound::NotServed,
     }
@@ -61,14 +61,14 @@ fn read_state(code: u8) -> StateFound
     }
 }
 
-fn engine_write(which: Psn, n: QpNumber, psn: u32, found: StateFound) -> EngineFound
+fn engine_write(which: PsnField, n: QpNumber, psn: u32, found: StateFound) -> EngineFound
     ensures { λ r. ⌜ r ≡ engineWriteOf which n psn found ⌝ }
 {
     if !requests::psn_fits(psn) {
         return EngineFound::Wrong;
     }
     match found {
-        StateFound::State(s) => EngineFound::Asked(Engine::Write(which, n, psn, s)),
+        StateFound::State(s) => EngineFound::OnRecord(EngineRequest::Write(which, s, n, psn)),
         StateFound::OutOfRange => EngineFound::Wrong,
     }
 }
@@ -77,9 +77,9 @@ fn engine_on(number: EngineNumber, n: QpNumber, psn: u32, code: u8) -> EngineFou
     ensures { λ r. ⌜ r ≡ engineOn number n psn code ⌝ }
 {
     match number {
-        EngineNumber::ReadState => EngineFound::Asked(Engine::ReadState(n)),
-        EngineNumber::ReadNext => EngineFound::Asked(Engine::ReadNext(n)),
-        EngineNumber::ReadAll => EngineFound::Asked(Engine::ReadAll(n)),
+        EngineNumber::ReadState => EngineFound::OnRecord(EngineRequest::ReadState(n)),
+        EngineNumber::ReadNext => EngineFound::OnRecord(EngineRequest::ReadNext(n)),
+        EngineNumber::ReadAll => EngineFound::OnRecord(EngineRequest::ReadAll(n)),
         EngineNumber::Write(which) => engine_write(which, n, psn, read_state(code)),
     }
 }
@@ -87,7 +87,7 @@ fn engine_on(number: EngineNumber, n: QpNumber, psn: u32, code: u8) -> EngineFou
 // The engine request, or `Wrong` where index, PSN or state is wrong. Reads do not look at PSN and
 // state.
 pub fn read_engine(number: EngineNumber, index: u32, psn: u32, code: u8, logs: Logs) -> EngineFound
-    ensures { λ r. ⌜ r ≡ engineOf logs number index psn code ⌝ }
+    ensures { λ r. ⌜ r ≡ readEngine logs number index psn code ⌝ }
 {
     match context::qp_number(logs, index) {
         QpFound::Number(n) => engine_on(number, n, psn, code),

@@ -1,7 +1,7 @@
 // Runs document 01's examples P1 to P11, with the logarithms 3, 2, 1, 2 throughout, and prints for
 // each what the model answers and what 01 gives.
 use context::CqNumber;
-use context::Init;
+use context::InitFound;
 use context::Logs;
 use context::MptNumber;
 use context::QpNumber;
@@ -11,9 +11,9 @@ use edges::State;
 use edges::Verdict;
 use hcr::ReadAnswer;
 ghost use mathlib.Core.Path.{_≡_};
-ghost use Rattle.context.specs.Init.{initNumber};
+ghost use Rattle.context.specs.Init.{initFoundNumber};
 ghost use Rattle.edges.specs.Edges.{verdictNumber};
-ghost use Rattle.hcr.specs.Register.{readNumber};
+ghost use Rattle.hcr.specs.Register.{readAnswerNumber};
 
 // The bytes that the records with these logarithms take.
 const STORE: usize = 2688;
@@ -44,18 +44,18 @@ fn logs() -> Logs {
 }
 
 // Document 01's number for each answer.
-fn init_number(answer: Init) -> u64
-    ensures { λ r. ⌜ r ≡ initNumber answer ⌝ }
+fn init_number(answer: InitFound) -> u64
+    ensures { λ r. ⌜ r ≡ initFoundNumber answer ⌝ }
 {
     match answer {
-        Init::Layout(_) => 0,
-        Init::ShortMailbox => 0x83,
-        Init::OutOfRange => 3,
+        InitFound::Layout(_) => 0,
+        InitFound::ShortMailbox => 0x83,
+        InitFound::OutOfRange => 3,
     }
 }
 
 fn read_number(answer: ReadAnswer) -> u64
-    ensures { λ r. ⌜ r ≡ readNumber answer ⌝ }
+    ensures { λ r. ⌜ r ≡ readAnswerNumber answer ⌝ }
 {
     match answer {
         ReadAnswer::Command(_) => 0,

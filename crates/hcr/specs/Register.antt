@@ -93,12 +93,12 @@ unfoldable pub writtenOf : HcrCommand → List ℕ → List ℕ
 writtenOf c h = bytesAfter (writeOf c h) c h
 
 -- Document 01's number for each answer: "0 means done or accepted".
-abbrev pub readNumber : ReadAnswer → ℕ
-readNumber (reads.Command c) = 0
-readNumber reads.Short = 0x83
-readNumber reads.Malformed = 3
+abbrev pub readAnswerNumber : ReadAnswer → ℕ
+readAnswerNumber (reads.Command c) = 0
+readAnswerNumber reads.Short = 0x83
+readAnswerNumber reads.Malformed = 3
 
-abbrev pub writtenNumber : WriteAnswer → ℕ
-writtenNumber writes.Done = 0
-writtenNumber writes.Short = 0x83
-writtenNumber writes.BadOp = 3
+abbrev pub writeAnswerNumber : WriteAnswer → ℕ
+writeAnswerNumber writes.Done = 0
+writeAnswerNumber writes.Short = 0x83
+writeAnswerNumber writes.BadOp = 3

@@ -9,7 +9,7 @@ use Rattle.words.specs.Parts.{splice}
 use Rattle.words.specs.Words.{leBytes}
 use Rattle.hcr.specs.declared.HcrCommand.{HcrCommand}
 use Rattle.hcr.specs.declared.WriteAnswer.the-variants as writes
-use Rattle.hcr.specs.Register.{leWords, word18, wordsOf, registerOf, writeRows, writeOf, bytesAfter, writtenOf, writtenNumber}
+use Rattle.hcr.specs.Register.{leWords, word18, wordsOf, registerOf, writeRows, writeOf, bytesAfter, writtenOf, writeAnswerNumber}
 use Rattle.hcr.specs.WordList.{one-word, words-more}
 
 -- One word right behind the words us: m is the list before it.
@@ -64,16 +64,16 @@ seven-words c t w l m₁ m₂ m₃ m₄ o e₁₈ p e₁₄ q e₀c e₀₈ e₀
 
 -- The writer's three answers, each with its number and the bytes that it leaves.
 pub answers-short : (c : HcrCommand) (h : List ℕ) → length h < 28
-    → (writes.Short ≡ writeOf c h) × (writtenNumber writes.Short ≡ writeRows c h 0x83 3 0) × (h ≡ writtenOf c h)
+    → (writes.Short ≡ writeOf c h) × (writeAnswerNumber writes.Short ≡ writeRows c h 0x83 3 0) × (h ≡ writtenOf c h)
 unfolding writeRows writeOf writtenOf bytesAfter
 answers-short c h p = rw (lt-ltb (length h) 28 p) (refl, refl, refl)
 
 pub answers-bad-op : (c : HcrCommand) (h : List ℕ) → 28 ≤ length h → 0xfff < c .op
-    → (writes.BadOp ≡ writeOf c h) × (writtenNumber writes.BadOp ≡ writeRows c h 0x83 3 0) × (h ≡ writtenOf c h)
+    → (writes.BadOp ≡ writeOf c h) × (writeAnswerNumber writes.BadOp ≡ writeRows c h 0x83 3 0) × (h ≡ writtenOf c h)
 unfolding writeRows writeOf writtenOf bytesAfter
 answers-bad-op c h p q = rw (le-ltb (length h) 28 p, lt-ltb 0xfff (c .op) q) (refl, refl, refl)
 
 pub answers-done : (c : HcrCommand) (h after : List ℕ) → 28 ≤ length h → c .op ≤ 0xfff → after ≡ splice 0 (registerOf c) h
-    → (writes.Done ≡ writeOf c h) × (writtenNumber writes.Done ≡ writeRows c h 0x83 3 0) × (after ≡ writtenOf c h)
+    → (writes.Done ≡ writeOf c h) × (writeAnswerNumber writes.Done ≡ writeRows c h 0x83 3 0) × (after ≡ writtenOf c h)
 unfolding writeRows writeOf writtenOf bytesAfter
 answers-done c h after p q e = rw (le-ltb (length h) 28 p, le-ltb 0xfff (c .op) q) (refl, refl, e)

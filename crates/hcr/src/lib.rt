@@ -5,7 +5,7 @@ ghost use mathlib.Core.List.{_∷_, []};
 ghost use lib.ListN.{length};
 ghost use Rattle.words.specs.Parts.{splice};
 ghost use Rattle.words.specs.Words.{bits};
-ghost use Rattle.hcr.specs.Register.{bit, leWords, paramAt, commandOf, wellFormed18, wellFormed, readRows, readOf, readNumber, word18, registerOf, writeRows, writeOf, writtenOf, writtenNumber};
+ghost use Rattle.hcr.specs.Register.{bit, leWords, paramAt, commandOf, wellFormed18, wellFormed, readRows, readOf, readAnswerNumber, word18, registerOf, writeRows, writeOf, writtenOf, writeAnswerNumber};
 
 pub struct HcrCommand {
     pub in_param: u64,
@@ -173,7 +173,7 @@ fn command_of(hcr: &[u8]) -> HcrCommand
 
 // The command in the register's first 28 bytes. 0x83, 3 and 0 are document 01's numbers.
 pub fn read(hcr: &[u8]) -> ReadAnswer
-    ensures { λ r. ⌜ (r ≡ readOf (now (hcr .entry))) × (readNumber r ≡ readRows (now (hcr .entry)) 0x83 3 0) ⌝ }
+    ensures { λ r. ⌜ (r ≡ readOf (now (hcr .entry))) × (readAnswerNumber r ≡ readRows (now (hcr .entry)) 0x83 3 0) ⌝ }
 {
     if hcr.len() < 28 {
         return ReadAnswer::Short;
@@ -205,7 +205,7 @@ fn write_words(hcr: &mut [u8], c: HcrCommand)
 
 // Writes a command to the register's first 28 bytes.
 pub fn write(hcr: &mut [u8], c: HcrCommand) -> WriteAnswer
-    ensures { λ r. ⌜ (r ≡ writeOf c (now (hcr .entry))) × (writtenNumber r ≡ writeRows c (now (hcr .entry)) 0x83 3 0) × (now (hcr .exit) ≡ writtenOf c (now (hcr .entry))) ⌝ }
+    ensures { λ r. ⌜ (r ≡ writeOf c (now (hcr .entry))) × (writeAnswerNumber r ≡ writeRows c (now (hcr .entry)) 0x83 3 0) × (now (hcr .exit) ≡ writtenOf c (now (hcr .entry))) ⌝ }
 {
     if hcr.len() < 28 {
         return WriteAnswer::Short;

@@ -25,23 +25,23 @@ pub enum Command {
 }
 
 // Which packet sequence number (PSN) of a queue pair an engine write sets.
-pub enum Psn {
+pub enum PsnField {
     NextSend,
     LastAcked,
     Expected,
 }
 
-pub enum Engine {
+pub enum EngineRequest {
     ReadState(QpNumber),
     ReadNext(QpNumber),
     ReadAll(QpNumber),
     // The PSN and the state that the write leaves.
-    Write(Psn, QpNumber, u32, State),
+    Write(PsnField, State, QpNumber, u32),
 }
 
 pub enum Request {
     Command(Command),
-    Engine(Engine),
+    Engine(EngineRequest),
 }
 
 // Whether a PSN is one that an engine write may set: 24 bits.

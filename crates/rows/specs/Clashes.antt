@@ -11,7 +11,7 @@ use Rattle.words.specs.Choice.{either}
 use Rattle.context.specs.declared.Record.{Record}
 use Rattle.context.specs.declared.Record.the-variants as rec
 use Rattle.requests.specs.declared.Request.{Request}
-use Rattle.tables.specs.Records.{recordsOf, writesOf}
+use Rattle.request_table.specs.Records.{recordsOf, writesOf}
 use Rattle.rows.specs.Rows.{anySlot}
 use Rattle.rows.specs.Holds.{clashPair, clashRecords, clashStatus, clashSlot, heldAgainst}
 use Rattle.slots.specs.declared.Slot.{Slot}
@@ -44,7 +44,7 @@ records-none q w Xs j n h k =
     sym k ∙ rw g
 
 -- the slot of a running request
-pub running-is : {s : Status} {q : Request} {m : ℕ} → s ≡ Running q m → (w : Bool) (Xs : List Record) (b : Bool) → clashRecords q w Xs ≡ b → clashStatus w Xs s ≡ b
+pub running-is : {s : Status} {q : Request} {m : ℕ} → s ≡ Running m q → (w : Bool) (Xs : List Record) (b : Bool) → clashRecords q w Xs ≡ b → clashStatus w Xs s ≡ b
 running-is e w Xs b f = rw e f
 
 -- the scan's answer, with the request's own records

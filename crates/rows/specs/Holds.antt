@@ -5,7 +5,7 @@ use Rattle.words.specs.Choice.{both, either}
 use Rattle.context.specs.Layout.{sameRecord}
 use Rattle.context.specs.declared.Record.{Record}
 use Rattle.requests.specs.declared.Request.{Request}
-use Rattle.tables.specs.Records.{recordOf, recordsOf, writesOf}
+use Rattle.request_table.specs.Records.{recordOf, recordsOf, writesOf}
 use Rattle.slots.specs.declared.Slot.{Slot}
 use Rattle.slots.specs.declared.Status.{Status}
 use Rattle.slots.specs.declared.Status.the-variants.{Free, Running, Finished}
@@ -23,8 +23,8 @@ clashRecords q w (X ∷ Xs) = either (clashPair q w X) (clashRecords q w Xs)
 -- a finished request holds nothing
 abbrev pub clashStatus : Bool → List Record → Status → Bool
 clashStatus w Xs Free = false
-clashStatus w Xs (Running q m) = clashRecords q w Xs
-clashStatus w Xs (Finished q m) = false
+clashStatus w Xs (Running m q) = clashRecords q w Xs
+clashStatus w Xs (Finished m q) = false
 
 abbrev pub clashSlot : Bool → List Record → Slot → Bool
 clashSlot w Xs s = clashStatus w Xs (s .status)

@@ -11,7 +11,7 @@ use Rattle.context.specs.Layout.{sameRecord, kindOf, kindCode, numberOf}
 use Rattle.context.specs.Records.{record-same}
 use Rattle.context.specs.declared.Record.{Record}
 use Rattle.requests.specs.declared.Request.{Request}
-use Rattle.tables.specs.Records.{recordOf, recordsOf, writesOf}
+use Rattle.request_table.specs.Records.{recordOf, recordsOf, writesOf}
 use Rattle.words.specs.Tests.{neither-left, either-swap, either-false, eqb-swap}
 use Rattle.slots.specs.Slots.{slot, occupiedStatus, isOccupied, hasCommand}
 use Rattle.rows.specs.Rows.{anySlot, lowestFree}
@@ -20,7 +20,7 @@ use Rattle.rows.specs.Every.{at, None, none-each}
 use Rattle.slots.specs.declared.Slot.{Slot}
 use Rattle.slots.specs.declared.Status.{Status}
 use Rattle.slots.specs.declared.Status.the-variants.{Free, Running, Finished}
-use Rattle.rows.specs.declared.Found.the-variants.{At, Nothing}
+use Rattle.rows.specs.declared.SlotFound.the-variants.{At, Nothing}
 
 -- ---- holds
 
@@ -37,7 +37,7 @@ pub clash-one : (q r : Request) → clashRecords q (writesOf r) (recordsOf r) �
 unfolding clashRecords
 clash-one q r = either-false (clashPair q (writesOf r) (recordOf r))
 
-pub held-symmetric : (q r : Request) (m n : ℕ) → heldAgainst (slot (Running q m) ∷ []) r ≡ heldAgainst (slot (Running r n) ∷ []) q
+pub held-symmetric : (q r : Request) (m n : ℕ) → heldAgainst (slot (Running m q) ∷ []) r ≡ heldAgainst (slot (Running n r) ∷ []) q
 unfolding heldAgainst anySlot
 held-symmetric q r m n =
     either-false (clashRecords q (writesOf r) (recordsOf r)) ∙ clash-one q r ∙ clash-symmetric q r
@@ -49,7 +49,7 @@ unfolding heldAgainst
 held-each row q e = none-each (clashSlot (writesOf q) (recordsOf q)) row refl e
 
 pub held-none : (row : List Slot) (q : Request) → heldAgainst row q ≡ false
-    → (k : ℕ) (r : Request) (m : ℕ) → at row k .status ≡ Running r m → clashPair r (writesOf q) (recordOf q) ≡ false
+    → (k : ℕ) (r : Request) (m : ℕ) → at row k .status ≡ Running m r → clashPair r (writesOf q) (recordOf q) ≡ false
 held-none row q e k r m f =
     sym (clash-one r q) ∙ ap (clashStatus (writesOf q) (recordsOf q)) (sym f) ∙ held-each row q e k
 
@@ -65,8 +65,8 @@ no-writer q r e f (inr w) = false≢true (sym (neither-left (writesOf q) (writes
 
 free-is : (s : Status) → occupiedStatus s ≡ false → s ≡ Free
 free-is Free e = refl
-free-is (Running q m) e = absurd (false≢true (sym e))
-free-is (Finished q m) e = absurd (false≢true (sym e))
+free-is (Running m q) e = absurd (false≢true (sym e))
+free-is (Finished m q) e = absurd (false≢true (sym e))
 
 pub not-occupied : (s : Slot) → isOccupied s ≡ false → s ≡ slot Free
 not-occupied s e = ap slot (free-is (s .status) e)

@@ -7,8 +7,8 @@ use Rattle.words.specs.Choice.{pick, either}
 use Rattle.slots.specs.Slots.{slot, isOccupied}
 use Rattle.slots.specs.declared.Slot.{Slot}
 use Rattle.slots.specs.declared.Status.the-variants.{Free}
-use Rattle.rows.specs.declared.Found.{Found}
-use Rattle.rows.specs.declared.Found.the-variants.{At, Nothing}
+use Rattle.rows.specs.declared.SlotFound.{SlotFound}
+use Rattle.rows.specs.declared.SlotFound.the-variants.{At, Nothing}
 
 -- a slot of the row passes the test
 unfoldable pub anySlot : (Slot → Bool) → List Slot → Bool
@@ -21,7 +21,7 @@ anyRest p [] = false
 anyRest p (s ∷ ss) = either (p s ss) (anyRest p ss)
 
 -- "takes the lowest free slot": of a row whose first slot has the number k
-unfoldable pub lowestFree : ℕ → List Slot → Found
+unfoldable pub lowestFree : ℕ → List Slot → SlotFound
 lowestFree k [] = Nothing
 lowestFree k (s ∷ ss) = pick (isOccupied s) (lowestFree (suc k) ss) (At k)
 

@@ -13,8 +13,8 @@ use Rattle.slots.specs.Slots.{slot, isOccupied}
 use Rattle.rows.specs.Rows.{anySlot, anyRest, lowestFree}
 use Rattle.slots.specs.declared.Slot.{Slot}
 use Rattle.slots.specs.declared.Status.the-variants.{Free}
-use Rattle.rows.specs.declared.Found.{Found}
-use Rattle.rows.specs.declared.Found.the-variants.{At, Nothing}
+use Rattle.rows.specs.declared.SlotFound.{SlotFound}
+use Rattle.rows.specs.declared.SlotFound.the-variants.{At, Nothing}
 
 -- ---- a slot that passes a test
 
@@ -71,17 +71,17 @@ free-head : (row : List Slot) (i : ℕ) → i < length row
 unfolding lowestFree
 free-head row i h = rw (drop-cons row i (slot Free) h)
 
-pub free-more : (row : List Slot) (i : ℕ) (r : Found) → length row ≡ 8 → i < 8
+pub free-more : (row : List Slot) (i : ℕ) (r : SlotFound) → length row ≡ 8 → i < 8
     → isOccupied (getD row i (slot Free)) ≡ true → lowestFree i (drop i row) ≡ r → lowestFree (i + 1) (drop (i + 1) row) ≡ r
 free-more row i r n h t k =
     rw add-one (simp t at (sym (free-head row i (omega arith)) ∙ k))
 
-pub free-found : (row : List Slot) (i : ℕ) (r : Found) → length row ≡ 8 → i < 8
+pub free-found : (row : List Slot) (i : ℕ) (r : SlotFound) → length row ≡ 8 → i < 8
     → isOccupied (getD row i (slot Free)) ≡ false → lowestFree i (drop i row) ≡ r → At i ≡ r
 free-found row i r n h t k =
     sym (simp t at (free-head row i (omega arith))) ∙ k
 
-pub free-none : (row : List Slot) (i : ℕ) (r : Found) → length row ≡ 8 → 8 ≤ i → lowestFree i (drop i row) ≡ r → Nothing ≡ r
+pub free-none : (row : List Slot) (i : ℕ) (r : SlotFound) → length row ≡ 8 → 8 ≤ i → lowestFree i (drop i row) ≡ r → Nothing ≡ r
 unfolding lowestFree
 free-none row i r n h k =
     let g : drop i row ≡ [] = drop-of-length-le row {i = i} (omega arith) in

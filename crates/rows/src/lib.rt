@@ -11,7 +11,7 @@ ghost use Rattle.rows.specs.Rows.{emptyRow, anySlot, lowestFree};
 ghost use Rattle.rows.specs.Holds.{clashPair, heldAgainst};
 
 // The number of the lowest free slot, if one is free.
-pub enum Found {
+pub enum SlotFound {
     At(usize),
     Nothing,
 }
@@ -24,16 +24,16 @@ pub fn empty_row() -> [Slot; 8]
     }; 8]
 }
 
-pub fn lowest_free(row: [Slot; 8]) -> Found
+pub fn lowest_free(row: [Slot; 8]) -> SlotFound
     ensures { λ r. ⌜ r ≡ lowestFree 0 row ⌝ }
 {
     for i in 0..8 {
         if slots::is_occupied(row[i]) {
             continue;
         }
-        return Found::At(i);
+        return SlotFound::At(i);
     }
-    Found::Nothing
+    SlotFound::Nothing
 }
 
 pub fn any_occupied(row: [Slot; 8]) -> bool
@@ -70,10 +70,10 @@ pub fn command_uncollected(row: [Slot; 8]) -> bool
 fn clashes(running: Request, writes: bool, rec: Record) -> bool
     ensures { λ r. ⌜ r ≡ clashPair running writes rec ⌝ }
 {
-    if !context::same_record(tables::record_of(running), rec) {
+    if !context::same_record(request_table::record_of(running), rec) {
         return false;
     }
-    if tables::writes(running) {
+    if request_table::writes(running) {
         return true;
     }
     writes
@@ -84,12 +84,12 @@ pub fn held_from(row: [Slot; 8], start: usize, request: Request) -> bool
     requires { ⌜ start ≤ 8 ⌝ }
     ensures { λ r. ⌜ r ≡ heldAgainst (drop start row) request ⌝ }
 {
-    let records = tables::records_of(request);
-    let writes = tables::writes(request);
+    let records = request_table::records_of(request);
+    let writes = request_table::writes(request);
     for i in start..8 {
         let slot = row[i];
         let status = slot.status;
-        let Status::Running(running, _) = status else {
+        let Status::Running(_, running) = status else {
             continue;
         };
         for j in 0..1 {

@@ -6,19 +6,19 @@ use lib.Dec.{ltb}
 use lib.ListN.{length, getD, set}
 use Rattle.words.specs.Choice.{pick}
 use Rattle.words.specs.Parts.{part, splice}
-use Rattle.context.specs.Layout.{recordOf}
+use Rattle.context.specs.Layout.{bytesOf}
 use Rattle.edges.specs.declared.Verdict.{Verdict}
 use Rattle.edges.specs.declared.Verdict.the-variants.{Permitted, NotPermitted}
 use Rattle.requests.specs.declared.Request.{Request}
-use Rattle.tables.specs.Records.{recordOf as touched}
-use Rattle.tables.specs.Mailboxes.{needOf}
-use Rattle.effects.specs.Permission.{permissionOf}
-use Rattle.effects.specs.Content.{contentHolds}
+use Rattle.request_table.specs.Records.{recordOf}
+use Rattle.request_table.specs.Mailboxes.{needOf}
+use Rattle.checks.specs.Permission.{permissionOf}
+use Rattle.checks.specs.Content.{contentHolds}
 use Rattle.slots.specs.Slots.{slot, accepted}
 use Rattle.rows.specs.Rows.{lowestFree}
 use Rattle.rows.specs.Holds.{heldAgainst}
-use Rattle.rows.specs.declared.Found.{Found}
-use Rattle.rows.specs.declared.Found.the-variants.{At, Nothing}
+use Rattle.rows.specs.declared.SlotFound.{SlotFound}
+use Rattle.rows.specs.declared.SlotFound.the-variants.{At, Nothing}
 use Rattle.slots.specs.declared.Status.the-variants.{Free}
 use Rattle.rules.specs.declared.Refusal.{Refusal}
 use Rattle.rules.specs.declared.Refusal.the-variants as cause
@@ -39,7 +39,7 @@ refused w c = submitted (submit.Refused c) w
 
 -- the record that a request touches, as it stands
 unfoldable pub recordNow : World → Request → List ℕ
-recordNow w q = recordOf (w .hca .logs) (touched q) (w .store)
+recordNow w q = bytesOf (w .hca .logs) (recordOf q) (w .store)
 
 -- "puts the needed mailbox bytes at the front of the slot's part of the room, and takes the lowest free slot"
 unfoldable pub taken : World → Request → List ℕ → ℕ → World
@@ -50,7 +50,7 @@ taken w q mail k =
     (splice (k * slotRoom) (part 0 (needOf q) mail) (w .room))
 
 -- "all eight slots occupied"
-unfoldable pub placed : World → Request → List ℕ → Found → Submitted
+unfoldable pub placed : World → Request → List ℕ → SlotFound → Submitted
 placed w q mail (At k) = submitted (submit.Accepted k) (taken w q mail k)
 placed w q mail Nothing = refused w cause.Full
 

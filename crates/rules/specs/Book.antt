@@ -7,8 +7,8 @@ use Rattle.context.specs.Layout.{sameRecord}
 use Rattle.context.specs.declared.Record.{Record}
 use Rattle.edges.specs.Edges.{verdictNumber}
 use Rattle.requests.specs.declared.Request.{Request}
-use Rattle.tables.specs.Records.{recordOf, writesOf}
-use Rattle.effects.specs.Permission.{permissionOf}
+use Rattle.request_table.specs.Records.{recordOf, writesOf}
+use Rattle.checks.specs.Permission.{permissionOf}
 use Rattle.answers.specs.Answers.{answerOf}
 use Rattle.rules.specs.Whole.{wholeEffect}
 
@@ -33,10 +33,10 @@ gated o n = pick o n 4
 
 -- the number that the book gives; "The book accepts a request when it gives it no number": 0 is none. "Where the record
 -- permits the edge or has the right owner .. Otherwise it gets 0x85 and nothing changes." Reads are always permitted.
-abbrev pub numberOf : Fed → Book → ℕ
-numberOf (onRecord q mail) b = gated (b .opened) (verdictNumber (permissionOf q (b .bytes (recordOf q))))
-numberOf closeHca b = gated (b .opened) 0
-numberOf nop b = 0
+abbrev pub bookNumber : Fed → Book → ℕ
+bookNumber (onRecord q mail) b = gated (b .opened) (verdictNumber (permissionOf q (b .bytes (recordOf q))))
+bookNumber closeHca b = gated (b .opened) 0
+bookNumber nop b = 0
 
 -- "Reads ..: the answer comes from the record, laid out as in collecting."; of a write "the answer is empty"; of CLOSE_HCA and
 -- NOP "their answer is empty"
@@ -60,4 +60,4 @@ byNumber zero b c = c
 byNumber (suc n) b c = b
 
 unfoldable pub afterOf : Fed → Book → Book
-afterOf f b = byNumber (numberOf f b) b (effectOf f b)
+afterOf f b = byNumber (bookNumber f b) b (effectOf f b)

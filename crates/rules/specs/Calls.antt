@@ -10,8 +10,8 @@ use Rattle.hcr.specs.declared.HcrCommand.{HcrCommand}
 use Rattle.hcr.specs.declared.ReadAnswer.{ReadAnswer}
 use Rattle.hcr.specs.declared.ReadAnswer.the-variants as hcr
 use Rattle.context.specs.declared.Logs.{Logs}
-use Rattle.commands.specs.Commands.{opOf, commandOf}
-use Rattle.engines.specs.Engines.{numberOf, engineOf}
+use Rattle.commands.specs.Commands.{readOp, readCommand}
+use Rattle.engines.specs.Engines.{readNumber, readEngine}
 use Rattle.commands.specs.declared.CommandFound.{CommandFound}
 use Rattle.commands.specs.declared.CommandFound.the-variants as found
 use Rattle.engines.specs.declared.EngineFound.{EngineFound}
@@ -22,7 +22,7 @@ use Rattle.engines.specs.declared.NumberFound.{NumberFound}
 use Rattle.engines.specs.declared.NumberFound.the-variants as number
 use Rattle.requests.specs.declared.Request.{Request}
 use Rattle.requests.specs.declared.Request.the-variants as request
-use Rattle.tables.specs.Mailboxes.{needOf}
+use Rattle.request_table.specs.Mailboxes.{needOf}
 use Rattle.rules.specs.declared.SubmitAnswer.{SubmitAnswer}
 use Rattle.rules.specs.declared.SubmitAnswer.the-variants as submit
 use Rattle.rules.specs.declared.StepAnswer.{StepAnswer}
@@ -55,12 +55,12 @@ pub data Answer : Type 0 where
   collected : CollectAnswer → List ℕ → Answer
   resetDone : ResetAnswer → Answer
 
-abbrev pub answerOf : World → Call → Answer
-answerOf w (command bytes mail) = submitted (submitCommand w bytes mail .answer)
-answerOf w (engineRequest n index psn state) = submitted (submitEngine w n index psn state .answer)
-answerOf w (step k) = stepped (stepOf w k .answer)
-answerOf w (collection k out) = collected (collectOf w k out .answer) (collectOf w k out .out)
-answerOf w resetting = resetDone (resetOf w .answer)
+abbrev pub answerTo : World → Call → Answer
+answerTo w (command bytes mail) = submitted (submitCommand w bytes mail .answer)
+answerTo w (engineRequest n index psn state) = submitted (submitEngine w n index psn state .answer)
+answerTo w (step k) = stepped (stepOf w k .answer)
+answerTo w (collection k out) = collected (collectOf w k out .answer) (collectOf w k out .out)
+answerTo w resetting = resetDone (resetOf w .answer)
 
 abbrev pub worldAfter : World → Call → World
 worldAfter w (command bytes mail) = submitCommand w bytes mail .world
@@ -72,23 +72,23 @@ worldAfter w resetting = resetOf w .world
 -- ---- what a submission asks for: from its bytes or numbers, and the counts of the initialisation
 
 abbrev pub opFound : Logs → HcrCommand → OpFound → CommandFound
-opFound g c (op.Served o) = commandOf g o (c .«op_modifier») (c .«in_modifier»)
+opFound g c (op.Served o) = readCommand g o (c .«op_modifier») (c .«in_modifier»)
 opFound g c op.NotServed = found.Wrong
 
 abbrev pub registerFound : Logs → ReadAnswer → CommandFound
 registerFound g hcr.Short = found.Wrong
 registerFound g hcr.Malformed = found.Wrong
-registerFound g (hcr.Command c) = opFound g c (opOf (c .op))
+registerFound g (hcr.Command c) = opFound g c (readOp (c .op))
 
 abbrev pub commandFound : Logs → List ℕ → CommandFound
 commandFound g bytes = registerFound g (readOf bytes)
 
 abbrev pub numberFound : Logs → ℕ → ℕ → ℕ → NumberFound → EngineFound
-numberFound g index psn state (number.Served n) = engineOf g n index psn state
+numberFound g index psn state (number.Served n) = readEngine g n index psn state
 numberFound g index psn state number.NotServed = engine.Wrong
 
 abbrev pub engineFound : Logs → ℕ → ℕ → ℕ → ℕ → EngineFound
-engineFound g n index psn state = numberFound g index psn state (numberOf n)
+engineFound g n index psn state = numberFound g index psn state (readNumber n)
 
 -- ---- what a call and its answer say of a request, for the journal
 
@@ -128,7 +128,7 @@ commandNote mail (found.OnRecord c) a = requestNote (request.Command c) mail a
 commandNote mail found.Wrong a = nothing
 
 abbrev pub engineNote : EngineFound → SubmitAnswer → Note
-engineNote (engine.Asked e) a = requestNote (request.Engine e) [] a
+engineNote (engine.OnRecord e) a = requestNote (request.Engine e) [] a
 engineNote engine.Wrong a = nothing
 
 -- "Its answer is what collecting it wrote": that many bytes at the front of the buffer

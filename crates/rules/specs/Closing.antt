@@ -5,7 +5,7 @@ use mathlib.Core.List.{List, [], _∷_, _++_, map}
 use lib.ListN.{replicate}
 use Rattle.rows.specs.Rows.{emptyRow}
 use Rattle.rules.specs.World.{world, hcaOf}
-use Rattle.rules.specs.Book.{Fed, onRecord, closeHca, nop, numberOf, gated, withRecord, afterRecord, afterOf}
+use Rattle.rules.specs.Book.{Fed, onRecord, closeHca, nop, bookNumber, gated, withRecord, afterRecord, afterOf}
 use Rattle.rules.specs.Calls.{engineRequest, step, collection, resetting, worldAfter}
 use Rattle.rules.specs.Demand3.{answered, runFrom, Run, done, finishedIn, given, bookOf, Demand3}
 use Rattle.rules.specs.Theorems.{demand3}
@@ -58,7 +58,7 @@ unfolding start closed
 closing-demanded = demand3 before initHcr initMail initialises-it (callsOf closing)
 
 -- "Closed, it gives 4 to all but NOP."
-pub closed-book : map (λ (f : Fed). numberOf f (given (bookOf start) (finishedIn (closed .world) (closed .journal)))) (onRecord (readState 0) [] ∷ closeHca ∷ nop ∷ [])
+pub closed-book : map (λ (f : Fed). bookNumber f (given (bookOf start) (finishedIn (closed .world) (closed .journal)))) (onRecord (readState 0) [] ∷ closeHca ∷ nop ∷ [])
     ≡ 4 ∷ 4 ∷ 0 ∷ []
 unfolding everything closing closed withRecord gated afterRecord afterOf
 closed-book = refl

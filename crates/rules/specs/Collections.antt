@@ -43,8 +43,8 @@ collectFinished w k out q =
 -- "step or collect: no such slot, or free"; "collect of a running slot"
 unfoldable pub collectOn : World → ℕ → List ℕ → Status → Collected
 collectOn w k out Free = collectRefused w out cause.NoRequest
-collectOn w k out (Running q m) = collectRefused w out cause.StillRunning
-collectOn w k out (Finished q m) = collectFinished w k out q
+collectOn w k out (Running m q) = collectRefused w out cause.StillRunning
+collectOn w k out (Finished m q) = collectFinished w k out q
 
 -- lent memory and state are tested first, as by every call but reset
 unfoldable pub collectOf : World → ℕ → List ℕ → Collected

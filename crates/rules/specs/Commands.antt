@@ -12,9 +12,9 @@ use Rattle.hcr.specs.declared.ReadAnswer.{ReadAnswer}
 use Rattle.hcr.specs.declared.ReadAnswer.the-variants as hcr
 use Rattle.context.specs.Layout.{inUse}
 use Rattle.context.specs.Init.{initOf}
-use Rattle.context.specs.declared.Init.{Init}
-use Rattle.context.specs.declared.Init.the-variants as init
-use Rattle.commands.specs.Commands.{opOf, commandOf}
+use Rattle.context.specs.declared.InitFound.{InitFound}
+use Rattle.context.specs.declared.InitFound.the-variants as init
+use Rattle.commands.specs.Commands.{readOp, readCommand}
 use Rattle.commands.specs.declared.CommandFound.{CommandFound}
 use Rattle.commands.specs.declared.CommandFound.the-variants as found
 use Rattle.commands.specs.declared.Op.{Op}
@@ -32,7 +32,7 @@ use Rattle.rules.specs.Admission.{Submitted, submitted, refused, admit}
 
 -- "INIT_HCA zeroes the bytes in use, leaves the others, and remembers the store's length."; "mailbox shorter than needed";
 -- "INIT_HCA out of range or larger than the store"
-unfoldable pub initialised : World → Init → Submitted
+unfoldable pub initialised : World → InitFound → Submitted
 initialised w (init.Layout g) =
     submitted submit.Done (world (hcaOf true g (length (w .store))) (w .row) (splice 0 (replicate (inUse g) 0) (w .store)) (w .room))
 initialised w init.ShortMailbox = refused w cause.ShortMailbox
@@ -83,13 +83,13 @@ served w mail c NotServed = refused w cause.NotServed
 served w mail c (Served o) =
     pick (badSystem (w .hca .«open») o) (refused w cause.BadSystemState)
     (pick (busy (w .row) o) (refused w cause.Busy)
-    (asked w mail (commandOf (w .hca .logs) o (c .«op_modifier») (c .«in_modifier»))))
+    (asked w mail (readCommand (w .hca .logs) o (c .«op_modifier») (c .«in_modifier»))))
 
 -- "HCR not well formed, .. or (submission only) E is 1"
 unfoldable pub register : World → List ℕ → ReadAnswer → Submitted
 register w mail hcr.Short = refused w cause.BadLength
 register w mail hcr.Malformed = refused w cause.Malformed
-register w mail (hcr.Command c) = pick (c .event) (refused w cause.Malformed) (served w mail c (opOf (c .op)))
+register w mail (hcr.Command c) = pick (c .event) (refused w cause.Malformed) (served w mail c (readOp (c .op)))
 
 -- "A command is submitted as its 28 bytes."; "HCR below 28" stands in the first row, before an impossible state
 unfoldable pub submitCommand : World → List ℕ → List ℕ → Submitted

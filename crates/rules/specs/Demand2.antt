@@ -13,7 +13,7 @@ use mathlib.Core.Path.{_≡_}
 use mathlib.Core.Bool.{true, false}
 use mathlib.Core.List.{List, []}
 use Prim.Native.Nat.{ℕ}
-use Rattle.context.specs.Layout.{isRecord, recordOf}
+use Rattle.context.specs.Layout.{isRecord, bytesOf}
 use Rattle.context.specs.declared.QpNumber.{QpNumber}
 use Rattle.context.specs.declared.Record.{Record}
 use Rattle.context.specs.declared.Record.the-variants as rec
@@ -21,11 +21,11 @@ use Rattle.edges.specs.States.{stateCode}
 use Rattle.edges.specs.Edges.{toOf, permits}
 use Rattle.edges.specs.declared.Move.the-variants as move
 use Rattle.requests.specs.declared.Command.the-variants as command
-use Rattle.requests.specs.declared.Engine.the-variants as engine
+use Rattle.requests.specs.declared.EngineRequest.the-variants as engine
 use Rattle.requests.specs.declared.Request.{Request}
 use Rattle.requests.specs.declared.Request.the-variants as request
-use Rattle.tables.specs.Records.{recordOf as touched}
-use Rattle.effects.specs.Fields.{stateOf, serviceOf}
+use Rattle.request_table.specs.Records.{recordOf}
+use Rattle.checks.specs.Fields.{stateOf, serviceOf}
 use Rattle.slots.specs.declared.Status.the-variants.{Running}
 use Rattle.rules.specs.World.{World, statusAt}
 use Rattle.rules.specs.Commands.{submitCommand}
@@ -42,19 +42,19 @@ Along (request.Command (command.ModifyQp e n)) code service next = (permits (mov
 Along (request.Engine (engine.ReadState n)) code service next = ⊥
 Along (request.Engine (engine.ReadNext n)) code service next = ⊥
 Along (request.Engine (engine.ReadAll n)) code service next = ⊥
-Along (request.Engine (engine.Write p n psn s)) code service next = (permits (move.Engine s) code service ≡ true) × (next ≡ stateCode s)
+Along (request.Engine (engine.Write p s n psn)) code service next = (permits (move.Engine s) code service ≡ true) × (next ≡ stateCode s)
 
 -- what a call makes of a queue pair's state
 pub data StateMove (w : World) (c : Call) (X : Record) (code service next : ℕ) : Type 0 where
   stays : next ≡ code → StateMove w c X code service next
-  moves : (k : ℕ) (q : Request) → c ≡ step k → statusAt k (w .row) ≡ Running q 0 → touched q ≡ X → Along q code service next
+  moves : (k : ℕ) (q : Request) → c ≡ step k → statusAt k (w .row) ≡ Running 0 q → recordOf q ≡ X → Along q code service next
       → StateMove w c X code service next
 
 abbrev pub Demand2 : World → Call → Type 0
 Demand2 w c =
     (n : QpNumber) → isRecord (w .hca .logs) (rec.Qp n) ≡ true
-    → let before : List ℕ = recordOf (w .hca .logs) (rec.Qp n) (w .store) in
-    let after : List ℕ = recordOf (w .hca .logs) (rec.Qp n) (worldAfter w c .store) in
+    → let before : List ℕ = bytesOf (w .hca .logs) (rec.Qp n) (w .store) in
+    let after : List ℕ = bytesOf (w .hca .logs) (rec.Qp n) (worldAfter w c .store) in
     StateMove w c (rec.Qp n) (stateOf before) (serviceOf before) (stateOf after)
 
 abbrev pub Statement : Type 0

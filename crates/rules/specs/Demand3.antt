@@ -18,16 +18,16 @@ use Prim.Native.Nat.{ℕ}
 use lib.Dec.{eqb}
 use lib.ListN.{replicate}
 use Rattle.words.specs.Choice.{pick}
-use Rattle.context.specs.Layout.{isRecord, recordOf, recordSize}
+use Rattle.context.specs.Layout.{isRecord, bytesOf, recordSize}
 use Rattle.context.specs.declared.Record.{Record}
-use Rattle.tables.specs.Records.{recordOf as touched, writesOf}
+use Rattle.request_table.specs.Records.{recordOf, writesOf}
 use Rattle.slots.specs.declared.Status.{Status}
 use Rattle.slots.specs.declared.Status.the-variants.{Free, Running, Finished}
 use Rattle.rules.specs.World.{World, statusAt}
 use Rattle.rules.specs.Collections.{answerAt}
 use Rattle.rules.specs.Commands.{submitCommand}
-use Rattle.rules.specs.Book.{Book, Fed, onRecord, closeHca, nop, numberOf, replyOf, afterOf}
-use Rattle.rules.specs.Calls.{Call, Note, nothing, refused, accepted, finished, emptied, answerOf, worldAfter, noteOf, stops, initialises}
+use Rattle.rules.specs.Book.{Book, Fed, onRecord, closeHca, nop, bookNumber, replyOf, afterOf}
+use Rattle.rules.specs.Calls.{Call, Note, nothing, refused, accepted, finished, emptied, answerTo, worldAfter, noteOf, stops, initialises}
 
 -- ---- The journal: the requests of a list of calls in the order of submission, from the calls and their answers alone, and the
 -- counts of the initialisation, which no call of the list changes (`Counts` in Frames).
@@ -66,7 +66,7 @@ abbrev pub runFrom : World → List Entry → List Call → Run
 runFrom w J [] = record { world = w; journal = J }
 runFrom w J (c ∷ cs) =
     pick (stops w c) (record { world = w; journal = J })
-    (runFrom (worldAfter w c) (noted (noteOf (w .hca .logs) c (answerOf w c)) J) cs)
+    (runFrom (worldAfter w c) (noted (noteOf (w .hca .logs) c (answerTo w c)) J) cs)
 
 -- ---- What is said of a run
 
@@ -81,8 +81,8 @@ done f a = record { what = f; gave = a }
 -- to a buffer long enough."
 abbrev pub inSlotDone : World → Fed → ℕ → Status → List Done → List Done
 inSlotDone w f k Free l = l
-inSlotDone w f k (Running q m) l = l
-inSlotDone w f k (Finished q m) l = done f (answerAt w k q) ∷ l
+inSlotDone w f k (Running m q) l = l
+inSlotDone w f k (Finished m q) l = done f (answerAt w k q) ∷ l
 
 -- the requests finished by the end of the run, in the order of acceptance, each with its answer
 abbrev pub finishedIn : World → List Entry → List Done
@@ -93,15 +93,15 @@ finishedIn w (inSlot f k ∷ J) = inSlotDone w f k (statusAt k (w .row)) (finish
 
 -- a request writes the record
 abbrev pub Writing : Fed → Record → Type 0
-Writing (onRecord q mail) X = (writesOf q ≡ true) × (touched q ≡ X)
+Writing (onRecord q mail) X = (writesOf q ≡ true) × (recordOf q ≡ X)
 Writing closeHca X = ⊥
 Writing nop X = ⊥
 
 -- no unfinished request is writing the record
 abbrev pub NotWriting : Fed → Record → Status → Type 0
 NotWriting f X Free = ¬ Writing f X
-NotWriting f X (Running q m) = ¬ Writing f X
-NotWriting f X (Finished q m) = Unit {0}
+NotWriting f X (Running m q) = ¬ Writing f X
+NotWriting f X (Finished m q) = Unit {0}
 
 abbrev pub Unwritten : World → Record → List Entry → Type 0
 Unwritten w X [] = Unit {0}
@@ -116,21 +116,21 @@ given b (d ∷ l) = given (afterOf (d .what) b) l
 
 -- "It starts open, with the records that the initialisation left": a number past its count names no record, and has no bytes
 abbrev pub bookOf : World → Book
-bookOf w = record { opened = true; bytes = λ X. pick (isRecord (w .hca .logs) X) (recordOf (w .hca .logs) X (w .store)) [] }
+bookOf w = record { opened = true; bytes = λ X. pick (isRecord (w .hca .logs) X) (bytesOf (w .hca .logs) X (w .store)) [] }
 
 -- ---- The claim, of a run that began with the book b and has come to the world w and the journal J
 
 pub record Demand3 (b : Book) (w : World) (J : List Entry) : Type 0 where
   -- the book accepts every finished request, given those accepted before it: "The book accepts a request when it gives it no number."
-  pub accepts : (A B : List Done) (d : Done) → finishedIn w J ≡ A ++ d ∷ B → numberOf (d .what) (given b A) ≡ 0
+  pub accepts : (A B : List Done) (d : Done) → finishedIn w J ≡ A ++ d ∷ B → bookNumber (d .what) (given b A) ≡ 0
   -- every record that nobody is writing is the book's, byte for byte
   pub records : (X : Record) → isRecord (w .hca .logs) X ≡ true → Unwritten w X J
-      → recordOf (w .hca .logs) X (w .store) ≡ given b (finishedIn w J) .bytes X
+      → bytesOf (w .hca .logs) X (w .store) ≡ given b (finishedIn w J) .bytes X
   -- the answer of every finished request is the book's
   pub answers : (A B : List Done) (d : Done) → finishedIn w J ≡ A ++ d ∷ B → replyOf (d .what) (given b A) ≡ d .gave
   -- "Refused because of its record's state": the same number from the book, given the finished requests accepted before it and no
   -- others
-  pub refusals : (A B : List Entry) (f : Fed) (n : ℕ) → J ≡ A ++ turnedAway f n ∷ B → numberOf f (given b (finishedIn w A)) ≡ n
+  pub refusals : (A B : List Entry) (f : Fed) (n : ℕ) → J ≡ A ++ turnedAway f n ∷ B → bookNumber f (given b (finishedIn w A)) ≡ n
 
 -- The statement: any store, row and room before the initialisation, any list of calls after it.
 abbrev pub Statement : Type 0

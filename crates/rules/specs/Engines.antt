@@ -3,7 +3,7 @@ use mathlib.Core.Bool.{not}
 use mathlib.Core.List.{[]}
 use Prim.Native.Nat.{ℕ}
 use Rattle.words.specs.Choice.{pick}
-use Rattle.engines.specs.Engines.{numberOf, engineOf}
+use Rattle.engines.specs.Engines.{readNumber, readEngine}
 use Rattle.engines.specs.declared.EngineFound.{EngineFound}
 use Rattle.engines.specs.declared.EngineFound.the-variants as found
 use Rattle.engines.specs.declared.NumberFound.{NumberFound}
@@ -15,7 +15,7 @@ use Rattle.rules.specs.Admission.{Submitted, refused, admit}
 
 -- "index wrong; in requests 3 to 5, PSN above 0xffffff or state above 6"
 unfoldable pub engineAsked : World → EngineFound → Submitted
-engineAsked w (found.Asked e) = admit w (request.Engine e) []
+engineAsked w (found.OnRecord e) = admit w (request.Engine e) []
 engineAsked w found.Wrong = refused w cause.BadParameter
 
 -- "request number not served"; "any engine request, while closed"
@@ -23,11 +23,11 @@ unfoldable pub engineServed : World → ℕ → ℕ → ℕ → NumberFound → 
 engineServed w index psn state NotServed = refused w cause.NotServed
 engineServed w index psn state (Served n) =
     pick (not (w .hca .«open»)) (refused w cause.BadSystemState)
-    (engineAsked w (engineOf (w .hca .logs) n index psn state))
+    (engineAsked w (readEngine (w .hca .logs) n index psn state))
 
 -- lent memory and state are tested first, as by every call but reset; then "request number not served"
 unfoldable pub submitEngine : World → ℕ → ℕ → ℕ → ℕ → Submitted
 submitEngine w number index psn state =
     pick (badLent w) (refused w cause.BadLength)
     (pick (badState w) (refused w cause.Impossible)
-    (engineServed w index psn state (numberOf number)))
+    (engineServed w index psn state (readNumber number)))

@@ -6,10 +6,10 @@ use lib.ListN.{replicate}
 use Rattle.words.specs.Maps.{mapFrom}
 use Rattle.words.specs.Parts.{part, splice}
 use Rattle.words.specs.Words.{bits, leValue, le32, leBytes, beValue, be32, beBytes}
-use Rattle.hcr.specs.Register.{paramAt, commandOf, wellFormed18, wellFormed, readRows, readOf, readNumber}
+use Rattle.hcr.specs.Register.{paramAt, commandOf, wellFormed18, wellFormed, readRows, readOf, readAnswerNumber}
 use Rattle.hcr.specs.declared.ReadAnswer.{ReadAnswer}
 use Rattle.hcr.specs.declared.ReadAnswer.the-variants as hcr
-use Rattle.context.specs.Init.{logsOf, initRows, initOf, initNumber}
+use Rattle.context.specs.Init.{logsOf, initRows, initOf, initFoundNumber}
 use Rattle.context.specs.Layout.{inUse, rangesHold, fitsStore, recordAt}
 use Rattle.context.specs.declared.Logs.{Logs}
 use Rattle.context.specs.declared.Record.the-variants as rec
@@ -18,8 +18,8 @@ use Rattle.edges.specs.Edges.{isActive, writeKeeps, writeFails, isSending, writ
 use Rattle.edges.specs.declared.State.{State}
 use Rattle.edges.specs.declared.State.the-variants.{Rtr, Rts, Sqe}
 use Rattle.edges.specs.declared.Move.the-variants as move
-use Rattle.requests.specs.declared.Psn.the-variants.{Expected}
-use Rattle.requests.specs.declared.Engine.the-variants as engine
+use Rattle.requests.specs.declared.PsnField.the-variants.{Expected}
+use Rattle.requests.specs.declared.EngineRequest.the-variants as engine
 use Rattle.requests.specs.declared.Request.{Request}
 use Rattle.requests.specs.declared.Request.the-variants as request
 use Rattle.byte_rule.specs.Bytes.{byteOf, withState, psnByte, writeByte}
@@ -48,8 +48,8 @@ register w = replicate 24 0 ++ leBytes 4 w
 -- what the register's reader gives: op and op_modifier, or the number of its refusal
 abbrev pub readBack : ReadAnswer → List ℕ
 readBack (hcr.Command c) = c .op ∷ c .«op_modifier» ∷ []
-readBack hcr.Short = readNumber hcr.Short ∷ []
-readBack hcr.Malformed = readNumber hcr.Malformed ∷ []
+readBack hcr.Short = readAnswerNumber hcr.Short ∷ []
+readBack hcr.Malformed = readAnswerNumber hcr.Malformed ∷ []
 
 -- the number that an engine's write gets, by the record's state and type and the state to be written
 abbrev pub engineWrite : State → State → ℕ → ℕ
@@ -60,14 +60,14 @@ abbrev pub withWord84 : ℕ → List ℕ
 withWord84 w = replicate 0x84 0 ++ (beBytes 4 w ++ replicate 0x78 0)
 
 abbrev pub writeExpected : ℕ → Request
-writeExpected psn = request.Engine (engine.Write Expected (record { 0 = 5 }) psn Rtr)
+writeExpected psn = request.Engine (engine.Write Expected Rtr (record { 0 = 5 }) psn)
 
 unfoldable pub table : List Row
 table =
     -- "P1 needs 2,688 bytes: a store of 2,688 is accepted."
-    p 1 (inUse logs ∷ initNumber (initOf mailbox 2688) ∷ []) (2688 ∷ 0 ∷ [])
+    p 1 (inUse logs ∷ initFoundNumber (initOf mailbox 2688) ∷ []) (2688 ∷ 0 ∷ [])
     -- "P2: 2,687 gets 3."
-    ∷ p 2 (initNumber (initOf mailbox 2687) ∷ []) (3 ∷ [])
+    ∷ p 2 (initFoundNumber (initOf mailbox 2687) ∷ []) (3 ∷ [])
     -- "P3 QP 5 starts at 1,280."
     ∷ p 3 (recordAt logs (rec.Qp (record { 0 = 5 })) ∷ []) (1280 ∷ [])
     -- "P4 CQ 3 at 2,240."

@@ -24,14 +24,14 @@ use Prim.Native.Nat.{ℕ, _+_, _/_, _≤_, _<_}
 use lib.Dec.{eqb}
 use lib.ListN.{length, getD}
 use Rattle.words.specs.Parts.{splice}
-use Rattle.context.specs.Layout.{isRecord, recordOf, recordSize, inUse}
+use Rattle.context.specs.Layout.{isRecord, bytesOf, recordSize, inUse}
 use Rattle.context.specs.declared.Record.{Record}
 use Rattle.requests.specs.declared.Request.{Request}
-use Rattle.tables.specs.Records.{recordOf as touched, writesOf}
-use Rattle.tables.specs.Mailboxes.{needOf}
+use Rattle.request_table.specs.Records.{recordOf, writesOf}
+use Rattle.request_table.specs.Mailboxes.{needOf}
 use Rattle.burst_table.specs.Bursts.{burstsOf, totalOf}
 use Rattle.byte_rule.specs.Bytes.{byteOf}
-use Rattle.answers.specs.Answers.{answerOf as answerFrom}
+use Rattle.answers.specs.Answers.{answerOf}
 use Rattle.bursts.specs.Bursts.{burst, after}
 use Rattle.bursts.specs.Copies.{copy, copies}
 use Rattle.slots.specs.declared.Status.the-variants.{Free, Running}
@@ -48,7 +48,7 @@ use Rattle.rules.specs.Steps.{burstAt, stepOf}
 use Rattle.rules.specs.Collections.{collectOf}
 use Rattle.rules.specs.Whole.{wholeEffect}
 use Rattle.rules.specs.Book.{onRecord}
-use Rattle.rules.specs.Calls.{Call, command, engineRequest, step, collection, resetting, Answer, submitted, stepped, collected, resetDone, accepted, answerOf, worldAfter, noteOf, isDone, begins, resetEnds}
+use Rattle.rules.specs.Calls.{Call, command, engineRequest, step, collection, resetting, Answer, submitted, stepped, collected, resetDone, accepted, answerTo, worldAfter, noteOf, isDone, begins, resetEnds}
 
 -- ---- a refusal
 
@@ -91,7 +91,7 @@ bufferAfter (resetDone a) l = l
 
 -- "Every refusal returns its number alone and leaves everything."
 abbrev pub Refusals : Type 0
-Refusals = (w : World) (c : Call) (l : List ℕ) → refusedBy (answerOf w c) ≡ true → (worldAfter w c ≡ w) × (bufferAfter (answerOf w c) l ≡ bufferOf c l)
+Refusals = (w : World) (c : Call) (l : List ℕ) → refusedBy (answerTo w c) ≡ true → (worldAfter w c ≡ w) × (bufferAfter (answerTo w c) l ≡ bufferOf c l)
 
 -- ---- the records
 
@@ -99,47 +99,47 @@ Refusals = (w : World) (c : Call) (l : List ℕ) → refusedBy (answerOf w c) �
 -- in slot k with m bursts moved, and the step is not refused. Of a write, by the byte rule, with the mailbox bytes in the room:
 abbrev pub Written : Type 0
 Written =
-    (w : World) (k : ℕ) (q : Request) (m : ℕ) → statusAt k (w .row) ≡ Running q m → refusedStep (stepOf w k .answer) ≡ false → writesOf q ≡ true
-    → (recordOf (w .hca .logs) (touched q) (stepOf w k .world .store)
-    ≡ burst (byteOf q (frontOf k q (w .room))) (getD (burstsOf q) m 0) (recordOf (w .hca .logs) (touched q) (w .store)))
+    (w : World) (k : ℕ) (q : Request) (m : ℕ) → statusAt k (w .row) ≡ Running m q → refusedStep (stepOf w k .answer) ≡ false → writesOf q ≡ true
+    → (bytesOf (w .hca .logs) (recordOf q) (stepOf w k .world .store)
+    ≡ burst (byteOf q (frontOf k q (w .room))) (getD (burstsOf q) m 0) (bytesOf (w .hca .logs) (recordOf q) (w .store)))
     × (stepOf w k .world .room ≡ w .room)
 
 -- "A read burst is copied to the offset in that part which it has in the record."
 abbrev pub Copied : Type 0
 Copied =
-    (w : World) (k : ℕ) (q : Request) (m : ℕ) → statusAt k (w .row) ≡ Running q m → refusedStep (stepOf w k .answer) ≡ false → writesOf q ≡ false
+    (w : World) (k : ℕ) (q : Request) (m : ℕ) → statusAt k (w .row) ≡ Running m q → refusedStep (stepOf w k .answer) ≡ false → writesOf q ≡ false
     → (roomOf k (stepOf w k .world .room)
-    ≡ copy (getD (burstsOf q) m 0) (recordOf (w .hca .logs) (touched q) (w .store)) (roomOf k (w .room)))
+    ≡ copy (getD (burstsOf q) m 0) (bytesOf (w .hca .logs) (recordOf q) (w .store)) (roomOf k (w .room)))
     × (stepOf w k .world .store ≡ w .store)
 
 -- All bursts of a write, one after the other, make its whole effect, as the book has it; of a read, the room then answers as the
 -- record does.
 abbrev pub BurstsWhole : Type 0
 BurstsWhole =
-    (q : Request) (mail r : List ℕ) → needOf q ≤ length mail → length r ≡ recordSize (touched q)
+    (q : Request) (mail r : List ℕ) → needOf q ≤ length mail → length r ≡ recordSize (recordOf q)
     → after (byteOf q mail) (burstsOf q) r ≡ wholeEffect q mail r
 
 abbrev pub BurstsRead : Type 0
 BurstsRead =
-    (q : Request) (r room : List ℕ) → writesOf q ≡ false → length r ≡ recordSize (touched q) → length room ≡ slotRoom
-    → answerFrom q (copies (burstsOf q) r room) ≡ answerFrom q r
+    (q : Request) (r room : List ℕ) → writesOf q ≡ false → length r ≡ recordSize (recordOf q) → length room ≡ slotRoom
+    → answerOf q (copies (burstsOf q) r room) ≡ answerOf q r
 
 -- What a call makes of a record: nothing, or, where it steps a slot whose running request writes that record, exactly the next burst
 -- of it by the byte rule.
 pub data Change (w : World) (c : Call) (X : Record) (before after : List ℕ) : Type 0 where
   kept : after ≡ before → Change w c X before after
-  burstMoved : (k : ℕ) (q : Request) (m : ℕ) → c ≡ step k → statusAt k (w .row) ≡ Running q m → m < totalOf q → writesOf q ≡ true → touched q ≡ X
+  burstMoved : (k : ℕ) (q : Request) (m : ℕ) → c ≡ step k → statusAt k (w .row) ≡ Running m q → m < totalOf q → writesOf q ≡ true → recordOf q ≡ X
       → length before ≡ recordSize X
       → after ≡ burst (byteOf q (frontOf k q (w .room))) (getD (burstsOf q) m 0) before → Change w c X before after
 
 abbrev pub Records : Type 0
 Records =
     (w : World) (c : Call) → begins w c ≡ false → (X : Record) → isRecord (w .hca .logs) X ≡ true
-    → Change w c X (recordOf (w .hca .logs) X (w .store)) (recordOf (w .hca .logs) X (worldAfter w c .store))
+    → Change w c X (bytesOf (w .hca .logs) X (w .store)) (bytesOf (w .hca .logs) X (worldAfter w c .store))
 
 -- "nothing else in the store": byte i lies in the burst that a step writes
 pub data InBurst (w : World) (i : ℕ) : Call → Type 0 where
-  inBurst : (k : ℕ) (q : Request) (m : ℕ) → statusAt k (w .row) ≡ Running q m → writesOf q ≡ true → burstAt w q m ≤ i → i < burstAt w q m + 16
+  inBurst : (k : ℕ) (q : Request) (m : ℕ) → statusAt k (w .row) ≡ Running m q → writesOf q ≡ true → burstAt w q m ≤ i → i < burstAt w q m + 16
       → InBurst w i (step k)
 
 abbrev pub Elsewhere : Type 0
@@ -156,38 +156,38 @@ Behind =
 -- front of the mailbox, was accepted into slot k
 abbrev pub Taken : Type 0
 Taken =
-    (w : World) (c : Call) (q : Request) (front : List ℕ) (k : ℕ) → noteOf (w .hca .logs) c (answerOf w c) ≡ accepted (onRecord q front) k
-    → (statusAt k (worldAfter w c .row) ≡ Running q 0) × (roomOf k (worldAfter w c .room) ≡ splice 0 front (roomOf k (w .room)))
+    (w : World) (c : Call) (q : Request) (front : List ℕ) (k : ℕ) → noteOf (w .hca .logs) c (answerTo w c) ≡ accepted (onRecord q front) k
+    → (statusAt k (worldAfter w c .row) ≡ Running 0 q) × (roomOf k (worldAfter w c .room) ≡ splice 0 front (roomOf k (w .room)))
 
 -- the slot that a submission takes
-abbrev pub takes : Answer → ℕ → Bool
-takes (submitted submit.Done) j = false
-takes (submitted (submit.Accepted k)) j = eqb k j
-takes (submitted (submit.Refused c)) j = false
-takes (stepped a) j = false
-takes (collected a out) j = false
-takes (resetDone a) j = false
+abbrev pub takesSlot : Answer → ℕ → Bool
+takesSlot (submitted submit.Done) j = false
+takesSlot (submitted (submit.Accepted k)) j = eqb k j
+takesSlot (submitted (submit.Refused c)) j = false
+takesSlot (stepped a) j = false
+takesSlot (collected a out) j = false
+takesSlot (resetDone a) j = false
 
 -- the slot that a step names
-abbrev pub steps : Call → ℕ → Bool
-steps (command bytes mail) j = false
-steps (engineRequest n index psn state) j = false
-steps (step k) j = eqb k j
-steps (collection k out) j = false
-steps resetting j = false
+abbrev pub stepsSlot : Call → ℕ → Bool
+stepsSlot (command bytes mail) j = false
+stepsSlot (engineRequest n index psn state) j = false
+stepsSlot (step k) j = eqb k j
+stepsSlot (collection k out) j = false
+stepsSlot resetting j = false
 
 -- the slot that a collection names
-abbrev pub collects : Call → ℕ → Bool
-collects (command bytes mail) j = false
-collects (engineRequest n index psn state) j = false
-collects (step k) j = false
-collects (collection k out) j = eqb k j
-collects resetting j = false
+abbrev pub collectsSlot : Call → ℕ → Bool
+collectsSlot (command bytes mail) j = false
+collectsSlot (engineRequest n index psn state) j = false
+collectsSlot (step k) j = false
+collectsSlot (collection k out) j = eqb k j
+collectsSlot resetting j = false
 
 -- "No other room byte changes, and collecting leaves the room as it stands.": byte i lies in the part of slot i / 256, if there is one
 abbrev pub Rooms : Type 0
 Rooms =
-    (w : World) (c : Call) (i : ℕ) → takes (answerOf w c) (i / slotRoom) ≡ false → steps c (i / slotRoom) ≡ false
+    (w : World) (c : Call) (i : ℕ) → takesSlot (answerTo w c) (i / slotRoom) ≡ false → stepsSlot c (i / slotRoom) ≡ false
     → getD (worldAfter w c .room) i 0 ≡ getD (w .room) i 0
 
 -- a reset that answers 0
@@ -199,13 +199,13 @@ empties (resetDone a) = resetEnds a
 
 abbrev pub Rows : Type 0
 Rows =
-    (w : World) (c : Call) (j : ℕ) → empties (answerOf w c) ≡ false → takes (answerOf w c) j ≡ false → steps c j ≡ false → collects c j ≡ false
+    (w : World) (c : Call) (j : ℕ) → empties (answerTo w c) ≡ false → takesSlot (answerTo w c) j ≡ false → stepsSlot c j ≡ false → collectsSlot c j ≡ false
     → statusAt j (worldAfter w c .row) ≡ statusAt j (w .row)
 
 -- "empties all slots and closes"
 abbrev pub Emptied : Type 0
 Emptied =
-    (w : World) (c : Call) → empties (answerOf w c) ≡ true
+    (w : World) (c : Call) → empties (answerTo w c) ≡ true
     → ((j : ℕ) → statusAt j (worldAfter w c .row) ≡ Free) × (worldAfter w c .hca .«open» ≡ false)
 
 -- ---- the state, and the lengths
@@ -218,7 +218,7 @@ atOnce (collected a out) = false
 atOnce (resetDone a) = resetEnds a
 
 abbrev pub Opens : Type 0
-Opens = (w : World) (c : Call) → atOnce (answerOf w c) ≡ false → worldAfter w c .hca ≡ w .hca
+Opens = (w : World) (c : Call) → atOnce (answerTo w c) ≡ false → worldAfter w c .hca ≡ w .hca
 
 abbrev pub Counts : Type 0
 Counts =

@@ -9,9 +9,9 @@ use lib.Dec.{eqb}
 use lib.ListN.{getD, take, replicate}
 use Rattle.context.specs.declared.Logs.{Logs}
 use Rattle.edges.specs.declared.State.the-variants.{Rtr}
-use Rattle.requests.specs.declared.Psn.the-variants.{NextSend}
+use Rattle.requests.specs.declared.PsnField.the-variants.{NextSend}
 use Rattle.requests.specs.declared.Command.the-variants as on
-use Rattle.requests.specs.declared.Engine.the-variants as engine
+use Rattle.requests.specs.declared.EngineRequest.the-variants as engine
 use Rattle.requests.specs.declared.Request.{Request}
 use Rattle.requests.specs.declared.Request.the-variants as request
 use Rattle.slots.specs.Slots.{slot}
@@ -20,7 +20,7 @@ use Rattle.slots.specs.declared.Slot.{Slot}
 use Rattle.slots.specs.declared.Status.{Status}
 use Rattle.slots.specs.declared.Status.the-variants.{Free, Running, Finished}
 use Rattle.rules.specs.World.{World, world, hcaOf}
-use Rattle.rules.specs.Calls.{Call, command, engineRequest, step, collection, resetting, answerOf, worldAfter}
+use Rattle.rules.specs.Calls.{Call, command, engineRequest, step, collection, resetting, answerTo, worldAfter}
 use Rattle.rules.specs.Frames.{refusedBy}
 use Rattle.rules.specs.Scripts.{Line, _gets_, callsOf, givenBy, shown, hcrOf, asks, initMail, image, before, start, everything}
 
@@ -34,7 +34,7 @@ within w l = record { at = w; lines = l }
 
 unfoldable pub alone : World → List Call → List (List ℕ)
 alone w [] = []
-alone w (c ∷ cs) = shown (answerOf w c) ∷ alone w cs
+alone w (c ∷ cs) = shown (answerTo w c) ∷ alone w cs
 
 -- ---- the states
 
@@ -55,7 +55,7 @@ abbrev pub readState : ℕ → Request
 readState n = request.Engine (engine.ReadState (record { 0 = n }))
 
 abbrev pub write : ℕ → ℕ → Request
-write n psn = request.Engine (engine.Write NextSend (record { 0 = n }) psn Rtr)
+write n psn = request.Engine (engine.Write NextSend Rtr (record { 0 = n }) psn)
 
 -- a command is uncollected, and it writes queue pair 0; a reader of queue pair 0 is running; a read of 4 bytes is finished
 unfoldable pub commanded : World
@@ -92,22 +92,22 @@ handedIn =
     ∷ within (rowed (slot Free ∷ emptyRow)) short
     ∷ within (world (start .hca) emptyRow (start .store) (replicate 2047 0)) short
     ∷ within (world (start .hca) emptyRow (0 ∷ start .store) (start .room)) wrongStore
-    ∷ within (world (before .hca) (slot (Running (readState 0) 0) ∷ take 6 emptyRow) (start .store) (start .room)) short
+    ∷ within (world (before .hca) (slot (Running 0 (readState 0)) ∷ take 6 emptyRow) (start .store) (start .room)) short
     -- "closed with an occupied slot"
-    ∷ within (handed false counts (Running (readState 0) 0) Free) wrongState
+    ∷ within (handed false counts (Running 0 (readState 0)) Free) wrongState
     -- "open with counts past their ranges or the store"
     ∷ within (handed true (record { qps = 0; cqs = 0; eqs = 6; mpts = 0 }) Free Free) wrongState
     ∷ within (handed true (record { qps = 1; cqs = 1; eqs = 1; mpts = 0 }) Free Free) wrongState
     -- "a slot's request .. whose .. index, PSN .. would get 2 or 3"
-    ∷ within (handed true counts Free (Running (readState 2) 0)) wrongState
-    ∷ within (handed true counts Free (Running (write 0 0x1000000) 0)) wrongState
+    ∷ within (handed true counts Free (Running 0 (readState 2))) wrongState
+    ∷ within (handed true counts Free (Running 0 (write 0 0x1000000))) wrongState
     -- "bursts moved not below (running) or not equal to (finished) its total"
-    ∷ within (handed true counts Free (Running (write 0 0) 2)) wrongState
-    ∷ within (handed true counts Free (Finished (write 0 0) 1)) wrongState
+    ∷ within (handed true counts Free (Running 2 (write 0 0))) wrongState
+    ∷ within (handed true counts Free (Finished 1 (write 0 0))) wrongState
     -- "two occupied slots with commands"
-    ∷ within (handed true counts (Running (query 0) 0) (Finished (query 1) 16)) wrongState
+    ∷ within (handed true counts (Running 0 (query 0)) (Finished 16 (query 1))) wrongState
     -- "running slots whose holds clash"
-    ∷ within (handed true counts (Running (readState 0) 0) (Running (write 0 0) 0)) wrongState
+    ∷ within (handed true counts (Running 0 (readState 0)) (Running 0 (write 0 0))) wrongState
     ∷ []
 
 -- ---- the rows below, top to bottom
@@ -119,7 +119,7 @@ typed2 = 0 ∷ 2 ∷ replicate 162 0
 unfoldable pub below87 : List Group
 below87 =
     -- "HCR below 28" comes before an impossible state, which comes before the rest
-    within (handed false counts (Running (readState 0) 0) Free)
+    within (handed false counts (Running 0 (readState 0)) Free)
     (command (replicate 27 0) [] gets (0x83 ∷ [])
     ∷ command (replicate 28 0) [] gets (0x87 ∷ [])
     ∷ engineRequest 7 0 0 0 gets (0x87 ∷ [])
@@ -217,7 +217,7 @@ ordered = refl
 
 -- Every number but 0 is a refusal, of which the frame (Frames) speaks.
 abbrev pub refusals : List Group → List (List Bool)
-refusals l = map (λ (g : Group). map (λ (c : Call). refusedBy (answerOf (g .at) c)) (callsOf (g .lines))) l
+refusals l = map (λ (g : Group). map (λ (c : Call). refusedBy (answerTo (g .at) c)) (callsOf (g .lines))) l
 
 abbrev pub numbered : List Group → List (List Bool)
 numbered l = map (λ (g : Group). map (λ (a : List ℕ). not (eqb (getD a 0 0) 0)) (givenBy (g .lines))) l

@@ -8,19 +8,19 @@ use Rattle.words.specs.Parts.{part, splice}
 use Rattle.words.specs.Words.{bits, leValue, le32, leBytes, beValue, be32, beBytes}
 use Rattle.hcr.specs.Register.{paramAt, commandOf, wellFormed18, wellFormed, readRows, readOf, word18, leWords, wordsOf, registerOf}
 use Rattle.context.specs.Init.{logsOf, initRows, initOf}
-use Rattle.context.specs.Layout.{rangesHold, fitsStore, isRecord, recordAt, recordOf, sameRecord}
+use Rattle.context.specs.Layout.{rangesHold, fitsStore, isRecord, recordAt, bytesOf, sameRecord}
 use Rattle.edges.specs.States.{isService}
 use Rattle.edges.specs.Edges.{permitsEdge, isActive, writeKeeps, writeFails, isSending, writeStops, permitsWrite, judgeOf}
-use Rattle.commands.specs.Commands.{opOf, commandOf as askedOf}
-use Rattle.engines.specs.Engines.{numberOf, stateFrom, engineOf}
-use Rattle.tables.specs.Records.{numbersHold}
-use Rattle.effects.specs.Fields.{stateOf, serviceOf, isHardware}
+use Rattle.commands.specs.Commands.{readOp, readCommand}
+use Rattle.engines.specs.Engines.{readNumber, stateFrom, readEngine}
+use Rattle.request_table.specs.Records.{numbersHold}
+use Rattle.checks.specs.Fields.{stateOf, serviceOf, isHardware}
 use Rattle.answers.specs.Answers.{stateAnswer, nextAnswer, wholeAnswer}
 use Rattle.byte_rule.specs.Bytes.{withState, takenByte, edgeByte, sw2hwByte, resizeByte, psnByte, writeByte}
 use Rattle.bursts.specs.Moves.{writtenPart, writeAt, copyAt}
 use Rattle.rows.specs.Rows.{emptyRow, anySlot, anyRest, lowestFree}
 use Rattle.rows.specs.Holds.{clashRecords, heldAgainst}
-use Rattle.states.specs.Possible.{commandBefore, twoCommands, holdsClash, openImpossible, impossible}
+use Rattle.possible.specs.Possible.{commandBefore, twoCommands, holdsClash, openImpossible, impossible}
 use Rattle.rules.specs.declared.SubmitAnswer.{SubmitAnswer}
 use Rattle.rules.specs.declared.SubmitAnswer.the-variants as submit
 use Rattle.rules.specs.declared.StepAnswer.{StepAnswer}
@@ -35,7 +35,7 @@ use Rattle.rules.specs.Engines.{engineAsked, engineServed, submitEngine}
 use Rattle.rules.specs.Steps.{burstAt, storeMoved, roomMoved, slotMoved, moved, stepOn, stepOf}
 use Rattle.rules.specs.Collections.{answerAt, collectFinished, collectOn, collectOf}
 use Rattle.rules.specs.Resets.{resetOf}
-use Rattle.rules.specs.Calls.{Call, command, step, Answer, submitted, stepped, collected, resetDone, answerOf, worldAfter, initialises}
+use Rattle.rules.specs.Calls.{Call, command, step, Answer, submitted, stepped, collected, resetDone, answerTo, worldAfter, initialises}
 
 -- ---- a script: calls with their answers
 
@@ -77,7 +77,7 @@ shown (resetDone a) = resetNumber a ∷ []
 -- the answers of a list of calls, each of which gets what the one before it left
 unfoldable pub answersFrom : World → List Call → List (List ℕ)
 answersFrom w [] = []
-answersFrom w (c ∷ cs) = shown (answerOf w c) ∷ answersFrom (worldAfter w c) cs
+answersFrom w (c ∷ cs) = shown (answerTo w c) ∷ answersFrom (worldAfter w c) cs
 
 -- all steps of a request in slot k that has n bursts to move
 abbrev pub allSteps : ℕ → ℕ → List Line
@@ -124,7 +124,7 @@ start = submitCommand before initHcr initMail .world
 -- ---- Every definition that a call computes with, by one name: a proof by computation unfolds it.
 
 unfoldable pub below : Unit {0}
-unfolding part splice mapFrom bits leValue le32 leBytes beValue be32 beBytes paramAt commandOf wellFormed18 wellFormed readRows readOf word18 leWords wordsOf registerOf logsOf initRows initOf rangesHold fitsStore isRecord recordAt recordOf sameRecord isService permitsEdge isActive writeKeeps writeFails isSending writeStops permitsWrite judgeOf opOf askedOf numberOf stateFrom engineOf numbersHold stateOf serviceOf isHardware stateAnswer nextAnswer wholeAnswer withState takenByte edgeByte sw2hwByte resizeByte psnByte writeByte writtenPart writeAt copyAt anySlot anyRest lowestFree clashRecords heldAgainst commandBefore twoCommands holdsClash openImpossible impossible
+unfolding part splice mapFrom bits leValue le32 leBytes beValue be32 beBytes paramAt commandOf wellFormed18 wellFormed readRows readOf word18 leWords wordsOf registerOf logsOf initRows initOf rangesHold fitsStore isRecord recordAt bytesOf sameRecord isService permitsEdge isActive writeKeeps writeFails isSending writeStops permitsWrite judgeOf readOp readCommand readNumber stateFrom readEngine numbersHold stateOf serviceOf isHardware stateAnswer nextAnswer wholeAnswer withState takenByte edgeByte sw2hwByte resizeByte psnByte writeByte writtenPart writeAt copyAt anySlot anyRest lowestFree clashRecords heldAgainst commandBefore twoCommands holdsClash openImpossible impossible
 below = tt
 
 unfoldable pub everything : Unit {0}

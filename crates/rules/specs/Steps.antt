@@ -5,7 +5,7 @@ use lib.ListN.{getD, set}
 use Rattle.words.specs.Choice.{pick}
 use Rattle.context.specs.Layout.{recordAt}
 use Rattle.requests.specs.declared.Request.{Request}
-use Rattle.tables.specs.Records.{recordOf as touched, writesOf}
+use Rattle.request_table.specs.Records.{recordOf, writesOf}
 use Rattle.burst_table.specs.Bursts.{offsetOf}
 use Rattle.bursts.specs.Moves.{writeAt, copyAt}
 use Rattle.slots.specs.Slots.{slot, advanced, leftOf}
@@ -30,7 +30,7 @@ stepRefused w c = stepped (step.Refused c) w
 
 -- where burst m of a request stands in the store
 unfoldable pub burstAt : World → Request → ℕ → ℕ
-burstAt w q m = recordAt (w .hca .logs) (touched q) + offsetOf q m
+burstAt w q m = recordAt (w .hca .logs) (recordOf q) + offsetOf q m
 
 -- "A step names a slot and moves one 16-byte burst of that request": a write changes that burst of the record
 unfoldable pub storeMoved : World → ℕ → Request → ℕ → List ℕ
@@ -51,8 +51,8 @@ moved w k q m = world (w .hca) (set (w .row) k (slotMoved w k)) (storeMoved w k 
 -- "no such slot, or free; step: finished"; else "The step's answer has the bursts still to move."
 unfoldable pub stepOn : World → ℕ → Status → Stepped
 stepOn w k Free = stepRefused w cause.NoRequest
-stepOn w k (Running q m) = stepped (step.Left (leftOf (slotMoved w k))) (moved w k q m)
-stepOn w k (Finished q m) = stepRefused w cause.NoRequest
+stepOn w k (Running m q) = stepped (step.Left (leftOf (slotMoved w k))) (moved w k q m)
+stepOn w k (Finished m q) = stepRefused w cause.NoRequest
 
 -- lent memory and state are tested first, as by every call but reset
 unfoldable pub stepOf : World → ℕ → Stepped

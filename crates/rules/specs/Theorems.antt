@@ -2,7 +2,7 @@
 use mathlib.Core.Path.{_≡_, sym, _∙_, ap}
 use Prim.Native.Nat.{ℕ, suc}
 use Rattle.bursts.specs.Effects.{writes-whole}
-use Rattle.rules.specs.Book.{Book, Fed, numberOf, effectOf, byNumber, afterOf}
+use Rattle.rules.specs.Book.{Book, Fed, bookNumber, effectOf, byNumber, afterOf}
 use Rattle.rules.specs.Frames.{Refusals, Written, Copied, BurstsWhole, BurstsRead, Records, Elsewhere, Behind, Taken, Rooms, Rows, Emptied, Opens, Counts, Buffers, Sizes}
 use Rattle.rules.specs.Demand2.{Statement as States}
 use Rattle.rules.specs.Demand3.{Zeroed, Statement as Serial}
@@ -82,6 +82,6 @@ pub demand3 : Serial
 demand3 = serial.demand3
 
 -- of the plain book, "Otherwise it gets 0x85 and nothing changes": a request that gets a number changes nothing
-pub book-leaves : (f : Fed) (b : Book) (n : ℕ) → numberOf f b ≡ suc n → afterOf f b ≡ b
+pub book-leaves : (f : Fed) (b : Book) (n : ℕ) → bookNumber f b ≡ suc n → afterOf f b ≡ b
 unfolding afterOf
 book-leaves f b n e = ap (λ (m : ℕ). byNumber m b (effectOf f b)) e

@@ -5,15 +5,15 @@ use mathlib.Core.Bool.{true, false≢true}
 use mathlib.Core.List.{List, [], _∷_, _++_}
 use Prim.Native.Nat.{ℕ}
 use lib.ListN.{take, drop, replicate}
-use Rattle.context.specs.Layout.{recordOf}
+use Rattle.context.specs.Layout.{bytesOf}
 use Rattle.context.specs.Records.{record-same}
 use Rattle.context.specs.declared.Record.the-variants as rec
 use Rattle.edges.specs.declared.State.the-variants.{Rtr, Rts, Err}
 use Rattle.edges.specs.declared.Edge.the-variants.{ResetToInit, InitToRtr, RtrToRts}
-use Rattle.requests.specs.declared.Psn.the-variants.{NextSend, LastAcked, Expected}
+use Rattle.requests.specs.declared.PsnField.the-variants.{NextSend, LastAcked, Expected}
 use Rattle.requests.specs.declared.Owned.the-variants as owned
 use Rattle.requests.specs.declared.Command.the-variants as on
-use Rattle.requests.specs.declared.Engine.the-variants as engine
+use Rattle.requests.specs.declared.EngineRequest.the-variants as engine
 use Rattle.requests.specs.declared.Request.{Request}
 use Rattle.requests.specs.declared.Request.the-variants as request
 use Rattle.slots.specs.Slots.{slot}
@@ -21,7 +21,7 @@ use Rattle.slots.specs.declared.Slot.{Slot}
 use Rattle.slots.specs.declared.Status.the-variants.{Free, Running, Finished}
 use Rattle.rules.specs.World.{world, hcaOf}
 use Rattle.rules.specs.Whole.{takeWords, setState, setPsn}
-use Rattle.rules.specs.Book.{Book, onRecord, nop, numberOf, replyOf, gated, withRecord, afterRecord, afterOf}
+use Rattle.rules.specs.Book.{Book, onRecord, nop, bookNumber, replyOf, gated, withRecord, afterRecord, afterOf}
 use Rattle.rules.specs.Calls.{engineRequest, step, collection, initialises}
 use Rattle.rules.specs.Demand3.{Entry, turnedAway, answered, inSlot, runFrom, Run, Done, done, finishedIn, given, bookOf, Demand3}
 use Rattle.rules.specs.Theorems.{demand3}
@@ -119,13 +119,13 @@ abbrev pub readNext : Request
 readNext = request.Engine (engine.ReadNext (record { 0 = 0 }))
 
 abbrev pub writeExpected : Request
-writeExpected = request.Engine (engine.Write Expected (record { 0 = 0 }) 0x20 Err)
+writeExpected = request.Engine (engine.Write Expected Err (record { 0 = 0 }) 0x20)
 
 abbrev pub writeAcked : Request
-writeAcked = request.Engine (engine.Write LastAcked (record { 0 = 0 }) 0x30 Rts)
+writeAcked = request.Engine (engine.Write LastAcked Rts (record { 0 = 0 }) 0x30)
 
 abbrev pub writeNext : Request
-writeNext = request.Engine (engine.Write NextSend (record { 0 = 0 }) 0 Rtr)
+writeNext = request.Engine (engine.Write NextSend Rtr (record { 0 = 0 }) 0)
 
 abbrev pub ownCq : Request
 ownCq = request.Command (on.Sw2Hw (owned.Cq (record { 0 = 1 })))
@@ -136,10 +136,10 @@ resizeCq = request.Command (on.ResizeCq (record { 0 = 1 }))
 -- the slots: request and bursts moved
 unfoldable pub row : List Slot
 row =
-    slot (Running (readState 1) 0)
-    ∷ slot (Running resizeCq 1)
-    ∷ slot (Finished (readState 0) 1)
-    ∷ slot (Finished writeExpected 2)
+    slot (Running 0 (readState 1))
+    ∷ slot (Running 1 resizeCq)
+    ∷ slot (Finished 1 (readState 0))
+    ∷ slot (Finished 2 writeExpected)
     ∷ slot Free
     ∷ slot Free
     ∷ slot Free
@@ -229,7 +229,7 @@ finished-is = refl
 -- the number and the answer of each
 abbrev pub bookGives : Book → List Done → List (List ℕ)
 bookGives b [] = []
-bookGives b (d ∷ l) = (numberOf (d .what) b ∷ replyOf (d .what) b) ∷ bookGives (afterOf (d .what) b) l
+bookGives b (d ∷ l) = (bookNumber (d .what) b ∷ replyOf (d .what) b) ∷ bookGives (afterOf (d .what) b) l
 
 pub book-answers : bookGives (bookOf start) finished
     ≡ (0 ∷ []) ∷ (0 ∷ []) ∷ (0 ∷ []) ∷ (0 ∷ 2 ∷ 0x6d ∷ 0x6e ∷ 0x6f ∷ []) ∷ (0 ∷ 2 ∷ []) ∷ (0 ∷ []) ∷ (0 ∷ []) ∷ []
@@ -237,7 +237,7 @@ unfolding everything finished image′ cq gated withRecord afterRecord afterOf t
 book-answers = refl
 
 -- its record of queue pair 0 is the store's, and in ERR; completion queue 1, which is half resized in the store, is as it was handed over
-pub book-records : (numberOf (onRecord writeNext []) (given (bookOf start) finished) ≡ 0x85)
+pub book-records : (bookNumber (onRecord writeNext []) (given (bookOf start) finished) ≡ 0x85)
     × (given (bookOf start) finished .bytes (rec.Qp (record { 0 = 0 })) ≡ qp)
     × (given (bookOf start) finished .bytes (rec.Cq (record { 0 = 1 })) ≡ cq ++ (replicate 7 0 ++ (1 ∷ [])))
 unfolding everything finished image′ cq qp gated withRecord afterRecord afterOf takeWords setState setPsn
@@ -254,7 +254,7 @@ unfolding start end
 demanded = demand3 before initHcr initMail initialises-it (callsOf lines)
 
 -- and so, of the read of the next PSN, given to the book after the three requests that were accepted before it:
-pub reads : (numberOf (onRecord readNext []) (given (bookOf start) (take 3 finished)) ≡ 0)
+pub reads : (bookNumber (onRecord readNext []) (given (bookOf start) (take 3 finished)) ≡ 0)
     × (replyOf (onRecord readNext []) (given (bookOf start) (take 3 finished)) ≡ 2 ∷ 0x6d ∷ 0x6e ∷ 0x6f ∷ [])
 unfolding finished
 reads =
@@ -262,12 +262,12 @@ reads =
     (demanded .accepts (take 3 finished) (drop 4 finished) d finished-is, demanded .answers (take 3 finished) (drop 4 finished) d finished-is)
 
 -- of the write that ERR does not permit, after the write to ERR, which is finished and not collected:
-pub refuses : numberOf (onRecord writeNext []) (given (bookOf start) (finishedIn (end .world) (take 9 journal))) ≡ 0x85
+pub refuses : bookNumber (onRecord writeNext []) (given (bookOf start) (finishedIn (end .world) (take 9 journal))) ≡ 0x85
 unfolding journal
 refuses = demanded .refusals (take 9 journal) (drop 10 journal) (onRecord writeNext []) 0x85 journal-is
 
 -- of queue pair 0, which nobody is writing:
-pub keeps : recordOf (end .world .hca .logs) (rec.Qp (record { 0 = 0 })) (end .world .store)
+pub keeps : bytesOf (end .world .hca .logs) (rec.Qp (record { 0 = 0 })) (end .world .store)
     ≡ given (bookOf start) (finishedIn (end .world) (end .journal)) .bytes (rec.Qp (record { 0 = 0 }))
 unfolding everything lines image′ cq resize end
 keeps =

@@ -8,10 +8,10 @@ use Rattle.words.specs.Choice.{both, either}
 use Rattle.words.specs.Parts.{part}
 use Rattle.context.specs.declared.Logs.{Logs}
 use Rattle.requests.specs.declared.Request.{Request}
-use Rattle.tables.specs.Mailboxes.{needOf}
+use Rattle.request_table.specs.Mailboxes.{needOf}
 use Rattle.slots.specs.Slots.{slot}
-use Rattle.states.specs.Possible.{impossible}
-use Rattle.states.specs.declared.Hca.{Hca}
+use Rattle.possible.specs.Possible.{impossible}
+use Rattle.possible.specs.declared.Hca.{Hca}
 use Rattle.slots.specs.declared.Slot.{Slot}
 use Rattle.slots.specs.declared.Status.{Status}
 use Rattle.slots.specs.declared.Status.the-variants.{Free}

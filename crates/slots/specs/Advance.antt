@@ -10,12 +10,12 @@ use Rattle.slots.specs.declared.Status.{Status}
 use Rattle.slots.specs.declared.Status.the-variants.{Running, Finished}
 
 -- a burst that is not the last, and the last
-pub moves-on : (s : Status) (q : Request) (m l : ℕ) → s ≡ Running q m → l ≡ totalOf q - m → 1 < l → Running q (m + 1) ≡ advancedStatus s
+pub moves-on : (s : Status) (q : Request) (m l : ℕ) → s ≡ Running m q → l ≡ totalOf q - m → 1 < l → Running (m + 1) q ≡ advancedStatus s
 moves-on s q m l e f h =
     let k : m + 1 < totalOf q = omega (arith, f) in
     rw (e, lt-ltb (m + 1) (totalOf q) k)
 
-pub finishes : (s : Status) (q : Request) (m l t : ℕ) → s ≡ Running q m → t ≡ totalOf q → l ≡ totalOf q - m → l ≤ 1 → Finished q t ≡ advancedStatus s
+pub finishes : (s : Status) (q : Request) (m l t : ℕ) → s ≡ Running m q → t ≡ totalOf q → l ≡ totalOf q - m → l ≤ 1 → Finished t q ≡ advancedStatus s
 finishes s q m l t e f g h =
     let k : totalOf q ≤ m + 1 = omega (arith, g) in
     rw (e, le-ltb (m + 1) (totalOf q) k, f)

@@ -9,8 +9,8 @@ ghost use Rattle.slots.specs.Slots.{accepted, freed, advancedStatus, adv
 // bursts moved. The bytes of the request's mailbox and answer stay in the room.
 pub enum Status {
     Free,
-    Running(Request, u8),
-    Finished(Request, u8),
+    Running(u8, Request),
+    Finished(u8, Request),
 }
 
 pub struct Slot {
@@ -42,12 +42,12 @@ impl Status {
     {
         match self {
             Status::Free => self,
-            Status::Running(request, moved) => {
+            Status::Running(moved, request) => {
                 let total = burst_table::total(request);
                 if left(request, moved) > 1 {
-                    return Status::Running(request, moved + 1);
+                    return Status::Running(moved + 1, request);
                 }
-                Status::Finished(request, total)
+                Status::Finished(total, request)
             }
             Status::Finished(_, _) => self,
         }
@@ -59,8 +59,8 @@ impl Status {
     {
         match self {
             Status::Free => 0,
-            Status::Running(request, moved) => left(request, moved),
-            Status::Finished(request, moved) => left(request, moved),
+            Status::Running(moved, request) => left(request, moved),
+            Status::Finished(moved, request) => left(request, moved),
         }
     }
 }
@@ -71,7 +71,7 @@ impl Slot {
         ensures { λ r. ⌜ r ≡ accepted self request ⌝ }
     {
         Slot {
-            status: Status::Running(request, 0),
+            status: Status::Running(0, request),
         }
     }
 
@@ -122,7 +122,7 @@ pub fn has_command(slot: Slot) -> bool
     let status = slot.status;
     match status {
         Status::Free => false,
-        Status::Running(request, _) => tables::is_command(request),
-        Status::Finished(request, _) => tables::is_command(request),
+        Status::Running(_, request) => request_table::is_command(request),
+        Status::Finished(_, request) => request_table::is_command(request),
     }
 }

@@ -9,8 +9,8 @@ use commands::OpFound;
 use context::Logs;
 use context::QpNumber;
 use edges::State;
-use requests::Engine;
-use requests::Psn;
+use requests::EngineRequest;
+use requests::PsnField;
 use requests::Request;
 
 // Where the record ends in the store: a queue pair's has 256 bytes, the others have 64.
@@ -74,7 +74,7 @@ fn run_command(mailbox: &[u8], op: u16, op_modifier: u8, end: usize) {
 }
 
 // For the reference, `w` is the offset of the PSN's word and `code` the state's code.
-fn run_engine(number: u64, write: Engine, w: usize, psn: u32, code: u32) {
+fn run_engine(number: u64, write: EngineRequest, w: usize, psn: u32, code: u32) {
     let mut whole = [memory::OUTSIDE; 768];
     memory::fill_record(&mut whole, QP);
     let mut moved = whole;
@@ -107,11 +107,11 @@ fn run_all_commands() {
 }
 
 fn run_engines() {
-    let next = Engine::Write(Psn::NextSend, QpNumber(INDEX), 0x123456, State::Rts);
+    let next = EngineRequest::Write(PsnField::NextSend, State::Rts, QpNumber(INDEX), 0x123456);
     run_engine(3, next, 0x6c, 0x123456, 3);
-    let acked = Engine::Write(Psn::LastAcked, QpNumber(INDEX), 0xfedcba, State::Sqd);
+    let acked = EngineRequest::Write(PsnField::LastAcked, State::Sqd, QpNumber(INDEX), 0xfedcba);
     run_engine(4, acked, 0x7c, 0xfedcba, 5);
-    let expected = Engine::Write(Psn::Expected, QpNumber(INDEX), 0x000020, State::Rtr);
+    let expected = EngineRequest::Write(PsnField::Expected, State::Rtr, QpNumber(INDEX), 0x000020);
     run_engine(5, expected, 0x84, 0x000020, 2);
 }
 

@@ -1,5 +1,5 @@
 -- `commands::read_command` meets its contract.
-use Rattle.commands.specs.Commands.{commandOf}
+use Rattle.commands.specs.Commands.{readCommand}
 use Rattle.words.specs.Choice.{cases}
 use borrow.Author.Needs.{needs}
 use Rattle.commands.proofs.read_command.Statement.{statement}
@@ -9,14 +9,14 @@ op-modifier-requires : tie.Need-op-modifier-requires
 op-modifier-requires c κs = search needs
 
 returns : tie.Need-returns
-unfolding commandOf
+unfolding readCommand
 returns c = rw (← c .before .op-modifier .ensures) (search cases)
 
 on-record-requires : tie.Need-on-record-requires
 on-record-requires c κs = search needs
 
 returns-2 : tie.Need-returns-2
-unfolding commandOf
+unfolding readCommand
 returns-2 c = rw (← c .before .before .op-modifier .ensures) (search cases)
 
 pub read-command-spec : {M : Type 1} → statement M

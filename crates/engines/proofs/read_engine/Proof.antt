@@ -1,5 +1,5 @@
 -- `engines::read_engine` meets its contract.
-use Rattle.engines.specs.Engines.{engineOf}
+use Rattle.engines.specs.Engines.{readEngine}
 use borrow.Author.Needs.{needs}
 use Rattle.engines.proofs.read_engine.Statement.{statement}
 use Rattle.engines.proofs.read_engine.Tie as tie
@@ -17,11 +17,11 @@ enum-told : tie.Need-enum-told
 enum-told c = search needs
 
 returns : tie.Need-returns
-unfolding engineOf
+unfolding readEngine
 returns c = rw (← c .before .before .before .before .qp-number .ensures, c .before .before .n .given .1) (c .engine-on .ensures)
 
 returns-2 : tie.Need-returns-2
-unfolding engineOf
+unfolding readEngine
 returns-2 c = rw (← c .before .before .qp-number .ensures, c .enum-told .given .1)
 
 pub read-engine-spec : {M : Type 1} → statement M

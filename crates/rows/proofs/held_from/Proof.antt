@@ -27,8 +27,8 @@ use Rattle.rows.proofs.held_from.Tie as tie
 -- a status whose tag is not a running one's
 not-running : (s : Status) (w : Bool) (Xs : List Record) → OneOf (0 ∷ 2 ∷ []) (tagOf (declared Status'.enum) s) → clashStatus w Xs s ≡ false
 not-running Free w Xs t = refl
-not-running (Running q m) w Xs t = absurd (⊎-elim (λ (e : _≡_ {A = ℕ} 1 0). omega arith) (λ (e : _≡_ {A = ℕ} 1 2). omega arith) t)
-not-running (Finished q m) w Xs t = refl
+not-running (Running m q) w Xs t = absurd (⊎-elim (λ (e : _≡_ {A = ℕ} 1 0). omega arith) (λ (e : _≡_ {A = ℕ} 1 2). omega arith) t)
+not-running (Finished m q) w Xs t = refl
 
 abbrev Inv-loop2 : tie.InvT-loop2
 Inv-loop2 start row records writes i running j₀ j = (j ≤ 1) × (clashRecords running writes (drop j records) ≡ clashRecords running writes records)

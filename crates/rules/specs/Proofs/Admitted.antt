@@ -18,14 +18,14 @@ use Rattle.edges.specs.Edges.{verdictNumber}
 use Rattle.edges.specs.declared.Verdict.{Verdict}
 use Rattle.edges.specs.declared.Verdict.the-variants.{Permitted, NotPermitted}
 use Rattle.requests.specs.declared.Command.the-variants as command
-use Rattle.requests.specs.declared.Engine.the-variants as engine
+use Rattle.requests.specs.declared.EngineRequest.the-variants as engine
 use Rattle.requests.specs.declared.Request.{Request}
 use Rattle.requests.specs.declared.Request.the-variants as request
-use Rattle.tables.specs.Records.{recordOf as touched, writesOf}
-use Rattle.tables.specs.Mailboxes.{needOf}
+use Rattle.request_table.specs.Records.{recordOf, writesOf}
+use Rattle.request_table.specs.Mailboxes.{needOf}
 use Rattle.burst_table.specs.Bursts.{burstsOf}
-use Rattle.effects.specs.Permission.{permissionOf}
-use Rattle.effects.specs.Content.{contentHolds}
+use Rattle.checks.specs.Permission.{permissionOf}
+use Rattle.checks.specs.Content.{contentHolds}
 use Rattle.answers.specs.Answers.{answerOf}
 use Rattle.answers.specs.Laws.{answer-agrees}
 use Rattle.bursts.specs.Bursts.{Fit}
@@ -36,8 +36,8 @@ use Rattle.slots.specs.Slots.{slot}
 use Rattle.rows.specs.Rows.{lowestFree}
 use Rattle.rows.specs.Holds.{clashPair, heldAgainst}
 use Rattle.rows.specs.Laws.{held-none, no-writer, Lowest, lowest-free-is}
-use Rattle.rows.specs.declared.Found.{Found}
-use Rattle.rows.specs.declared.Found.the-variants.{At, Nothing}
+use Rattle.rows.specs.declared.SlotFound.{SlotFound}
+use Rattle.rows.specs.declared.SlotFound.the-variants.{At, Nothing}
 use Rattle.slots.specs.declared.Slot.{Slot}
 use Rattle.slots.specs.declared.Status.{Status}
 use Rattle.slots.specs.declared.Status.the-variants.{Free, Running, Finished}
@@ -66,7 +66,7 @@ stays w = record { ended = []; event = idle (record { looks = λ X. refl; slots 
 
 -- ---- holds
 
-passes : (r q : Request) (a b : List ℕ) → clashPair r (writesOf q) (touched q) ≡ false → Passes system (onRecord r a) (onRecord q b)
+passes : (r q : Request) (a b : List ℕ) → clashPair r (writesOf q) (recordOf q) ≡ false → Passes system (onRecord r a) (onRecord q b)
 passes r q a b h = record { out = out; back = back; also = tt }
   where
     out : (X : Place) → Writes (onRecord r a) X → Sees (onRecord q b) X → ⊥
@@ -81,13 +81,13 @@ passes r q a b h = record { out = out; back = back; also = tt }
 pub record Seen (k : ℕ) (room : List ℕ) (s : Status) (f : Fed) (p : Left) : Type 0 where
   pub request : Request
   pub moved : ℕ
-  pub is : s ≡ Running request moved
+  pub is : s ≡ Running moved request
   pub asks : onRecord request (frontOf k request room) ≡ f
 
 pub seen-runs : (k : ℕ) (room : List ℕ) (s : Status) (f : Fed) (p : Left) → slotView k room s ≡ runs f p → Seen k room s f p
 seen-runs k room Free f p e = let z : _≡_ {A = ℕ} 0 1 = cc in absurd (omega arith)
-seen-runs k room (Running q m) f p e = record { request = q; moved = m; is = refl; asks = cc }
-seen-runs k room (Finished q m) f p e = let z : _≡_ {A = ℕ} 0 1 = cc in absurd (omega arith)
+seen-runs k room (Running m q) f p e = record { request = q; moved = m; is = refl; asks = cc }
+seen-runs k room (Finished m q) f p e = let z : _≡_ {A = ℕ} 0 1 = cc in absurd (omega arith)
 
 pub passes-all : (w : World) (q : Request) (mail : List ℕ) → heldAgainst (w .row) q ≡ false → PassesAll system (viewOf w) (onRecord q mail)
 unfolding statusAt
@@ -98,7 +98,7 @@ passes-all w q mail h j f p e =
 
 -- ---- a reader's record is a queue pair's
 
-reader-size : (q : Request) → writesOf q ≡ false → recordSize (touched q) ≡ 256
+reader-size : (q : Request) → writesOf q ≡ false → recordSize (recordOf q) ≡ 256
 reader-size (request.Command (command.Sw2Hw o)) e = absurd (true≢false e)
 reader-size (request.Command (command.Hw2Sw o)) e = absurd (true≢false e)
 reader-size (request.Command (command.ResizeCq n)) e = absurd (true≢false e)
@@ -107,10 +107,10 @@ reader-size (request.Command (command.ModifyQp x n)) e = absurd (true≢false e)
 reader-size (request.Engine (engine.ReadState n)) e = refl
 reader-size (request.Engine (engine.ReadNext n)) e = refl
 reader-size (request.Engine (engine.ReadAll n)) e = refl
-reader-size (request.Engine (engine.Write p n psn s)) e = absurd (true≢false e)
+reader-size (request.Engine (engine.Write p s n psn)) e = absurd (true≢false e)
 
 -- once all bursts of a read are copied, the slot's part of the room answers as the record does
-pub read-answers : (q : Request) (c buf : List ℕ) → writesOf q ≡ false → length c ≡ recordSize (touched q) → length buf ≡ 256
+pub read-answers : (q : Request) (c buf : List ℕ) → writesOf q ≡ false → length c ≡ recordSize (recordOf q) → length buf ≡ 256
     → answerOf q (copies (burstsOf q) c buf) ≡ answerOf q c
 read-answers q c buf rd e f =
     let h : Fit (length c) (burstsOf q) = rw e (bursts-fit q) in
@@ -120,7 +120,7 @@ read-answers q c buf rd e f =
 
 -- ---- all bursts are still to move
 
-begun : (q : Request) (mail buf c : List ℕ) → needOf q ≤ length mail → length c ≡ recordSize (touched q) → length buf ≡ 256
+begun : (q : Request) (mail buf c : List ℕ) → needOf q ≤ length mail → length c ≡ recordSize (recordOf q) → length buf ≡ 256
     → (b : Bool) → writesOf q ≡ b → MidOf b q mail (left (burstsOf q) buf) c c
 begun q mail buf c n e f true wr = writes-whole q mail c e ∙ sym (whole-bytes q mail c n e)
 begun q mail buf c n e f false rd = read-answers q c buf rd e f
@@ -128,21 +128,21 @@ begun q mail buf c n e f false rd = read-answers q c buf rd e f
 -- ---- the admission
 
 module _ (w : World) (z : Sized w) (o : w .hca .«open» ≡ true) (fits : inUse (w .hca .logs) ≤ length (w .store)) (q : Request) (mail : List ℕ)
-    (valid : isRecord (w .hca .logs) (touched q) ≡ true) where
+    (valid : isRecord (w .hca .logs) (recordOf q) ≡ true) where
   abbrev Ok : Submitted → Type 0
   Ok s = Fine w (s .world) (noteFor (requestNote q mail (s .answer)))
 
   front : List ℕ
   front = part 0 (needOf q) mail
 
-  record-here : lookAt w (at (touched q)) ≡ recordNow w q
+  record-here : lookAt w (at (recordOf q)) ≡ recordNow w q
   unfolding recordNow
-  record-here = look-valid w (touched q) valid
+  record-here = look-valid w (recordOf q) valid
 
   verdict : (v : Verdict) → permissionOf q (recordNow w q) ≡ v → num (onRecord q front) (lookAt w) ≡ verdictNumber v
   unfolding front
   verdict v e =
-      ap (λ (b : Bool). gatedBy (gateBytes b) (verdictNumber (permissionOf q (lookAt w (at (touched q)))))) o
+      ap (λ (b : Bool). gatedBy (gateBytes b) (verdictNumber (permissionOf q (lookAt w (at (recordOf q)))))) o
       ∙ ap (λ (c : List ℕ). verdictNumber (permissionOf q c)) record-here ∙ ap verdictNumber e
 
   module _ (enough : needOf q ≤ length mail) (free : heldAgainst (w .row) q ≡ false) where
@@ -164,9 +164,9 @@ module _ (w : World) (z : Sized w) (o : w .hca .«open» ≡ true) (fits : inUse
       room-length : length (u .room) ≡ length (w .room)
       room-length = ap length room-is ∙ length-splice (k * slotRoom) front (w .room) placed-fits
 
-      here : statusAt k (u .row) ≡ Running q 0
+      here : statusAt k (u .row) ≡ Running 0 q
       unfolding u taken statusAt
-      here = ap (λ (s : Slot). s .status) (getD-set-same (w .row) k (slot (Running q 0)) (slot Free) (omega (arith, z .rowed)))
+      here = ap (λ (s : Slot). s .status) (getD-set-same (w .row) k (slot (Running 0 q)) (slot Free) (omega (arith, z .rowed)))
 
       front-here : frontOf k q (u .room) ≡ front
       unfolding frontOf
@@ -207,13 +207,13 @@ module _ (w : World) (z : Sized w) (o : w .hca .«open» ≡ true) (fits : inUse
         event =
             take (left (burstsOf q) (roomOf k (u .room))) looks (ap (slotView k (w .room)) was)
             (ap (slotView k (u .room)) here ∙ ap (λ (m : List ℕ). runs (onRecord q m) (left (burstsOf q) (roomOf k (u .room)))) front-here)
-            (others w u k (slot (Running q 0)) z refl rooms fronts)
+            (others w u k (slot (Running 0 q)) z refl rooms fronts)
             (passes-all w q front free)
             (verdict Permitted permitted)
-            (begun q front (roomOf k (u .room)) (lookAt w (at (touched q))) (omega (arith, long)) (length-look w fits (touched q) valid) buffer (writesOf q) refl);
+            (begun q front (roomOf k (u .room)) (lookAt w (at (recordOf q))) (omega (arith, long)) (length-look w fits (recordOf q) valid) buffer (writesOf q) refl);
       }
 
-    placed-ok : (f : Found) → lowestFree 0 (w .row) ≡ f → permissionOf q (recordNow w q) ≡ Permitted → Ok (placed w q mail f)
+    placed-ok : (f : SlotFound) → lowestFree 0 (w .row) ≡ f → permissionOf q (recordNow w q) ≡ Permitted → Ok (placed w q mail f)
     unfolding placed statusAt
     placed-ok (At k) e p =
         let l : Lowest (w .row) k = lowest-free-is (w .row) k e in

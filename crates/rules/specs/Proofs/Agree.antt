@@ -16,17 +16,17 @@ use Rattle.words.specs.Parts.{part, splice, length-part, getD-part}
 use Rattle.words.specs.Words.{beBytes}
 use Rattle.words.specs.Maps.{mapFrom, length-mapFrom, made-map, map-cong, map-map, map-same, replicate-map, splice-map, copy-map}
 use Rattle.context.specs.Layout.{recordSize}
-use Rattle.requests.specs.declared.Psn.{Psn}
-use Rattle.requests.specs.declared.Psn.the-variants.{NextSend, LastAcked, Expected}
+use Rattle.requests.specs.declared.PsnField.{PsnField}
+use Rattle.requests.specs.declared.PsnField.the-variants.{NextSend, LastAcked, Expected}
 use Rattle.requests.specs.declared.Owned.{Owned}
 use Rattle.requests.specs.declared.Owned.the-variants as owned
 use Rattle.requests.specs.declared.Command.the-variants as command
-use Rattle.requests.specs.declared.Engine.the-variants as engine
+use Rattle.requests.specs.declared.EngineRequest.the-variants as engine
 use Rattle.requests.specs.declared.Request.{Request}
 use Rattle.requests.specs.declared.Request.the-variants as request
-use Rattle.tables.specs.Sizes.{owned-size}
-use Rattle.tables.specs.Records.{recordOf}
-use Rattle.tables.specs.Mailboxes.{storedOf, needOf}
+use Rattle.request_table.specs.Sizes.{owned-size}
+use Rattle.request_table.specs.Records.{recordOf}
+use Rattle.request_table.specs.Mailboxes.{storedOf, needOf}
 use Rattle.burst_table.specs.Bursts.{psnPlace}
 use Rattle.byte_rule.specs.Bytes.{sw2hwByte, resizeByte, psnByte, writeByte, byteOf}
 use Rattle.rules.specs.Whole.{ownedEffect, resizeEffect, setPsn, psnEffect, wholeEffect}
@@ -130,7 +130,7 @@ psn-map at psn r h =
         let far : (j : ℕ) → at + 1 ≤ j → j < at + 1 + 3 → eqb i j ≡ false = λ j p q. beyond (at + 1) 3 j i p q o in
         rw (far (at + 1) (omega arith) (omega arith), far (at + 2) (omega arith) (omega arith), far (at + 3) (omega arith) (omega arith))
 
-psn-bytes : (p : Psn) (psn : ℕ) (r : List ℕ) → length r ≡ 256 → psnEffect p psn r ≡ mapFrom (psnByte (psnPlace p) psn) 0 r
+psn-bytes : (p : PsnField) (psn : ℕ) (r : List ℕ) → length r ≡ 256 → psnEffect p psn r ≡ mapFrom (psnByte (psnPlace p) psn) 0 r
 psn-bytes NextSend psn r w = psn-map 0x6c psn r (omega arith)
 psn-bytes LastAcked psn r w = psn-map 0x7c psn r (omega arith)
 psn-bytes Expected psn r w = psn-map 0x84 psn r (omega arith)
@@ -148,5 +148,5 @@ whole-bytes (request.Command (command.ModifyQp e n)) mail r h w = edge-bytes mai
 whole-bytes (request.Engine (engine.ReadState n)) mail r h w = sym (map-same 0 r)
 whole-bytes (request.Engine (engine.ReadNext n)) mail r h w = sym (map-same 0 r)
 whole-bytes (request.Engine (engine.ReadAll n)) mail r h w = sym (map-same 0 r)
-whole-bytes (request.Engine (engine.Write p n psn s)) mail r h w =
+whole-bytes (request.Engine (engine.Write p s n psn)) mail r h w =
     state-over s (psnByte (psnPlace p) psn) (psnEffect p psn r) r (omega arith) (psn-bytes p psn r w)

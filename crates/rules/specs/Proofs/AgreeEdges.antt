@@ -14,8 +14,8 @@ use Rattle.edges.specs.Edges.{toOf}
 use Rattle.edges.specs.declared.State.{State}
 use Rattle.edges.specs.declared.Edge.{Edge}
 use Rattle.edges.specs.declared.Edge.the-variants.{ResetToInit, InitToInit, InitToRtr, RtrToRts, RtsToRts, SqeToRts, RtsToSqd, SqdToSqd, SqdToRts, ToErr, ToReset}
-use Rattle.tables.specs.Mailboxes.{edgeNeed}
-use Rattle.byte_rule.specs.Taken.{takes, wordOf, zeroes}
+use Rattle.request_table.specs.Mailboxes.{edgeNeed}
+use Rattle.byte_rule.specs.Taken.{takesWord, wordOf, zeroes}
 use Rattle.byte_rule.specs.Bytes.{withState, takenByte, edgeByte}
 use Rattle.rules.specs.Whole.{takeWords, setState, edgeEffect}
 use Rattle.words.specs.Tests.{within-yes, within-no, beyond, within-one, pick-either, either-assoc}
@@ -98,7 +98,7 @@ module _ (image r : List ℕ) (whole : length r ≡ 256) where
       → {t : ℕ → Bool} {m : List ℕ} → Takes t m → Takes (λ w. either (t w) (eqb w at)) (takeWords at at image m)
   also-word long at e {t} h = same-test (λ w. either (t w) (eqb w at)) (λ w. ap (either (t w)) (within-one at w)) (also-words long at at e h)
 
-  state-after : (e : Edge) → zeroes e ≡ false → {m : List ℕ} → Takes (takes e) m → setState (toOf e) m ≡ mapFrom (edgeByte e image) 0 r
+  state-after : (e : Edge) → zeroes e ≡ false → {m : List ℕ} → Takes (takesWord e) m → setState (toOf e) m ≡ mapFrom (edgeByte e image) 0 r
   unfolding takenByte edgeByte
   state-after e z t =
       state-over (toOf e) (takenByte e image) _ r (omega arith) (t .is)
@@ -114,7 +114,7 @@ module _ (image r : List ℕ) (whole : length r ≡ 256) where
   edge-bytes InitToRtr h = state-after InitToRtr refl (also-word h 0x84 refl (also-words h 0x04 0x4c refl none))
   edge-bytes RtrToRts h =
       state-after RtrToRts refl
-      (same-test (takes RtrToRts) (λ w. either-assoc (within 0x20 0x28 w) (eqb w 0x6c) (eqb w 0x7c))
+      (same-test (takesWord RtrToRts) (λ w. either-assoc (within 0x20 0x28 w) (eqb w 0x6c) (eqb w 0x7c))
       (also-word h 0x7c refl (also-word h 0x6c refl (also-words h 0x20 0x28 refl none))))
   edge-bytes RtsToRts h = state-after RtsToRts refl (also-words h 0x20 0x28 refl none)
   edge-bytes SqeToRts h = state-after SqeToRts refl (also-word h 0x98 refl none)

@@ -11,7 +11,7 @@ use lib.Dec.{ltb, lit<}
 use lib.ListN.{length, getD, set}
 use lib.Seq.{getD-set-same, getD-set-other, set-out}
 use Rattle.words.specs.Choice.{pick, by-pick}
-use Rattle.context.specs.Layout.{isRecord, recordOf}
+use Rattle.context.specs.Layout.{isRecord, bytesOf}
 use Rattle.context.specs.Records.{record?}
 use Rattle.context.specs.declared.Logs.{Logs}
 use Rattle.context.specs.declared.QpNumber.{QpNumber}
@@ -23,15 +23,15 @@ use Rattle.edges.specs.declared.Move.the-variants as move
 use Rattle.edges.specs.declared.Verdict.the-variants.{Permitted, NotPermitted}
 use Rattle.requests.specs.declared.Command.the-variants as command
 use Rattle.requests.specs.declared.Owned.the-variants as owned
-use Rattle.requests.specs.declared.Engine.the-variants as engine
-use Rattle.requests.specs.declared.Psn.{Psn}
-use Rattle.requests.specs.declared.Psn.the-variants.{NextSend, LastAcked, Expected}
+use Rattle.requests.specs.declared.EngineRequest.the-variants as engine
+use Rattle.requests.specs.declared.PsnField.{PsnField}
+use Rattle.requests.specs.declared.PsnField.the-variants.{NextSend, LastAcked, Expected}
 use Rattle.requests.specs.declared.Request.{Request}
 use Rattle.requests.specs.declared.Request.the-variants as request
-use Rattle.tables.specs.Records.{recordOf as touched, writesOf}
+use Rattle.request_table.specs.Records.{recordOf, writesOf}
 use Rattle.burst_table.specs.Bursts.{burstsOf, totalOf, psnBursts, psnPlace, at-burst}
-use Rattle.effects.specs.Fields.{stateOf, serviceOf}
-use Rattle.effects.specs.Permission.{permissionOf}
+use Rattle.checks.specs.Fields.{stateOf, serviceOf}
+use Rattle.checks.specs.Permission.{permissionOf}
 use Rattle.byte_rule.specs.Bytes.{byteOf}
 use Rattle.bursts.specs.Bursts.{burst, burst-out, fit-at}
 use Rattle.bursts.specs.Table.{bursts-room, total-bursts}
@@ -47,12 +47,12 @@ use Rattle.rules.specs.Engines.{submitEngine}
 use Rattle.rules.specs.Steps.{Stepped, storeMoved, slotMoved, moved, stepOf}
 use Rattle.rules.specs.Collections.{Collected, collectOf}
 use Rattle.rules.specs.Resets.{Reset, resetOf}
-use Rattle.rules.specs.Calls.{Call, command as commanding, engineRequest, step, collection, resetting, worldAfter, answerOf, noteOf, initialises, resetEnds, stops}
+use Rattle.rules.specs.Calls.{Call, command as commanding, engineRequest, step, collection, resetting, worldAfter, answerTo, noteOf, initialises, resetEnds, stops}
 use Rattle.rules.specs.Demand3.{Entry, noted, Run, runFrom}
 use Rattle.rules.specs.Proofs.View.{look-valid, lent-sized, open-fits, Runs, running, in-row}
 use Rattle.rules.specs.Proofs.Started.{Started, started}
 use Rattle.rules.specs.Proofs.Moved.{other-record}
-use Rattle.states.specs.Laws.{writer-alone}
+use Rattle.possible.specs.Laws.{writer-alone}
 use Rattle.rules.specs.Frames.{Change, kept, burstMoved}
 use Rattle.rules.specs.Proofs.Submissions.{command-but-init, engine-is}
 use Rattle.rules.specs.Proofs.Outcomes.{Stepping, step-is, collect-is, reset-is}
@@ -61,7 +61,7 @@ use Rattle.rules.specs.Demand2.{Along, StateMove, stays, moves, Statemen
 
 -- every running writer that has moved no burst is permitted by its record as it stands
 Judged : World → Type 0
-Judged w = (k : ℕ) (q : Request) → statusAt k (w .row) ≡ Running q 0 → writesOf q ≡ true → permissionOf q (recordNow w q) ≡ Permitted
+Judged w = (k : ℕ) (q : Request) → statusAt k (w .row) ≡ Running 0 q → writesOf q ≡ true → permissionOf q (recordNow w q) ≡ Permitted
 
 -- a slot of a row with one slot set: that slot, or as it was
 slot-cases : (row : List Slot) (k j : ℕ) (s : Slot) → (statusAt j (set row k s) ≡ s .status) ⊎ ((statusAt j (set row k s) ≡ statusAt j row) × ((j ≡ k → ⊥) ⊎ (length row ≤ k)))
@@ -79,31 +79,31 @@ judged-store : (w u : World) → u .hca .logs ≡ w .hca .logs → u .store ≡ 
 unfolding recordNow
 judged-store w u e f q p = ap₂′ ∙ p
   where
-    ap₂′ : permissionOf q (recordOf (u .hca .logs) (touched q) (u .store)) ≡ permissionOf q (recordOf (w .hca .logs) (touched q) (w .store))
-    ap₂′ = ap (λ (g : Logs). permissionOf q (recordOf g (touched q) (u .store))) e ∙ ap (λ (s : List ℕ). permissionOf q (recordOf (w .hca .logs) (touched q) s)) f
+    ap₂′ : permissionOf q (bytesOf (u .hca .logs) (recordOf q) (u .store)) ≡ permissionOf q (bytesOf (w .hca .logs) (recordOf q) (w .store))
+    ap₂′ = ap (λ (g : Logs). permissionOf q (bytesOf g (recordOf q) (u .store))) e ∙ ap (λ (s : List ℕ). permissionOf q (bytesOf (w .hca .logs) (recordOf q) s)) f
 
 -- a slot that is freed, or taken by a request that was judged
 judged-free : (w u : World) (k : ℕ) → Judged w → u .hca .logs ≡ w .hca .logs → u .store ≡ w .store → u .row ≡ set (w .row) k (slot Free) → Judged u
 unfolding Judged
 judged-free w u k i e f r j q s wr = go (slot-cases (w .row) k j (slot Free))
   where
-    now : statusAt j (set (w .row) k (slot Free)) ≡ Running q 0
+    now : statusAt j (set (w .row) k (slot Free)) ≡ Running 0 q
     now = ap (statusAt j) (sym r) ∙ s
 
     go : (statusAt j (set (w .row) k (slot Free)) ≡ Free) ⊎ ((statusAt j (set (w .row) k (slot Free)) ≡ statusAt j (w .row)) × ((j ≡ k → ⊥) ⊎ (length (w .row) ≤ k)))
         → permissionOf q (recordNow u q) ≡ Permitted
-    go (inl x) = let c : Free ≡ Running q 0 = sym x ∙ now in let z : _≡_ {A = ℕ} 0 1 = cc in absurd (omega arith)
+    go (inl x) = let c : Free ≡ Running 0 q = sym x ∙ now in let z : _≡_ {A = ℕ} 0 1 = cc in absurd (omega arith)
     go (inr x) = judged-store w u e f q (i j q (sym (x .0) ∙ now) wr)
 
 judged-taken : (w : World) (q : Request) (mail : List ℕ) (k : ℕ) → Judged w → permissionOf q (recordNow w q) ≡ Permitted → Judged (taken w q mail k)
 unfolding Judged taken
-judged-taken w q mail k i p j r s wr = go (slot-cases (w .row) k j (slot (Running q 0)))
+judged-taken w q mail k i p j r s wr = go (slot-cases (w .row) k j (slot (Running 0 q)))
   where
-    go : (statusAt j (set (w .row) k (slot (Running q 0))) ≡ Running q 0)
-        ⊎ ((statusAt j (set (w .row) k (slot (Running q 0))) ≡ statusAt j (w .row)) × ((j ≡ k → ⊥) ⊎ (length (w .row) ≤ k)))
+    go : (statusAt j (set (w .row) k (slot (Running 0 q))) ≡ Running 0 q)
+        ⊎ ((statusAt j (set (w .row) k (slot (Running 0 q))) ≡ statusAt j (w .row)) × ((j ≡ k → ⊥) ⊎ (length (w .row) ≤ k)))
         → permissionOf r (recordNow (taken w q mail k) r) ≡ Permitted
     go (inl x) =
-        let c : Running q 0 ≡ Running r 0 = sym x ∙ s in
+        let c : Running 0 q ≡ Running 0 r = sym x ∙ s in
         let e : q ≡ r = cc in
         judged-store w (taken w q mail k) refl refl r (subst (λ (y : Request). permissionOf y (recordNow w y) ≡ Permitted) e p)
     go (inr x) = judged-store w (taken w q mail k) refl refl r (i j r (sym (x .0) ∙ s) wr)
@@ -133,27 +133,27 @@ advanced-is row k s e = ap advancedStatus e
 -- a burst of another request: what a request that has moved none is judged by stays
 module _ (w : World) (k : ℕ) (q : Request) (m : ℕ) (s : Stepping w k q m) where
   -- no burst leaves a slot running with none moved
-  never-first : (r : Request) → advancedStatus (Running q m) ≡ Running r 0 → ⊥
-  never-first r = by-pick (λ (x : Status). x ≡ Running r 0 → ⊥) (ltb (m + 1) (totalOf q)) _ _
+  never-first : (r : Request) → advancedStatus (Running m q) ≡ Running 0 r → ⊥
+  never-first r = by-pick (λ (x : Status). x ≡ Running 0 r → ⊥) (ltb (m + 1) (totalOf q)) _ _
       (λ _ e. let f : m + 1 ≡ 0 = cc in omega arith)
       (λ _ e. let z : _≡_ {A = ℕ} 0 1 = cc in omega arith)
 
-  record-kept : (j : ℕ) (r : Request) → ¬ (j ≡ k) → statusAt j (w .row) ≡ Running r 0 → recordNow (moved w k q m) r ≡ recordNow w r
+  record-kept : (j : ℕ) (r : Request) → ¬ (j ≡ k) → statusAt j (w .row) ≡ Running 0 r → recordNow (moved w k q m) r ≡ recordNow w r
   unfolding recordNow moved storeMoved badState statusAt
-  record-kept j r d e = go (record? (touched q) (touched r)) (writesOf q) refl
+  record-kept j r d e = go (record? (recordOf q) (recordOf r)) (writesOf q) refl
     where
       mine : Runs w q m
       mine = running w (s .possible) (s .opened) k q m (s .now)
 
-      other : isRecord (w .hca .logs) (touched r) ≡ true
+      other : isRecord (w .hca .logs) (recordOf r) ≡ true
       other = running w (s .possible) (s .opened) j r 0 e .valid
 
-      go : Dec (touched q ≡ touched r) → (b : Bool) → writesOf q ≡ b
-          → recordOf (w .hca .logs) (touched r) (moved w k q m .store) ≡ recordOf (w .hca .logs) (touched r) (w .store)
+      go : Dec (recordOf q ≡ recordOf r) → (b : Bool) → writesOf q ≡ b
+          → bytesOf (w .hca .logs) (recordOf r) (moved w k q m .store) ≡ bytesOf (w .hca .logs) (recordOf r) (w .store)
       go (no n) b f =
-          sym (look-valid (moved w k q m) (touched r) other)
-          ∙ other-record w (lent-sized w (s .lent)) (open-fits w (s .lent) (s .possible) (s .opened)) k q m (s .now) (mine .valid) (mine .more) (touched r) n
-          ∙ look-valid w (touched r) other
+          sym (look-valid (moved w k q m) (recordOf r) other)
+          ∙ other-record w (lent-sized w (s .lent)) (open-fits w (s .lent) (s .possible) (s .opened)) k q m (s .now) (mine .valid) (mine .more) (recordOf r) n
+          ∙ look-valid w (recordOf r) other
       go (yes y) true f = absurd (writer-alone (w .hca) (w .row) (s .opened) (s .possible) k j (λ h. d (sym h)) q m r 0 (s .now) e y f)
       go (yes y) false f = rw f
 
@@ -161,13 +161,13 @@ module _ (w : World) (k : ℕ) (q : Request) (m : ℕ) (s : Stepping w k q m) wh
   unfolding Judged moved slotMoved
   burst-judged i j r e wr = go (slot-cases (w .row) k j (advanced (getD (w .row) k (slot Free))))
     where
-      next : advanced (getD (w .row) k (slot Free)) .status ≡ advancedStatus (Running q m)
-      next = advanced-is (w .row) k (Running q m) (s .now)
+      next : advanced (getD (w .row) k (slot Free)) .status ≡ advancedStatus (Running m q)
+      next = advanced-is (w .row) k (Running m q) (s .now)
 
       occupied : ¬ (statusAt k (w .row) ≡ Free)
-      occupied f = let c : Running q m ≡ Free = sym (s .now) ∙ f in let z : _≡_ {A = ℕ} 0 1 = cc in omega arith
+      occupied f = let c : Running m q ≡ Free = sym (s .now) ∙ f in let z : _≡_ {A = ℕ} 0 1 = cc in omega arith
 
-      stays-judged : statusAt j (w .row) ≡ Running r 0 → ¬ (j ≡ k) → permissionOf r (recordNow (moved w k q m) r) ≡ Permitted
+      stays-judged : statusAt j (w .row) ≡ Running 0 r → ¬ (j ≡ k) → permissionOf r (recordNow (moved w k q m) r) ≡ Permitted
       stays-judged f d = ap (permissionOf r) (record-kept j r d f) ∙ i j r f wr
 
       go : (statusAt j (set (w .row) k (advanced (getD (w .row) k (slot Free)))) ≡ advanced (getD (w .row) k (slot Free)) .status)
@@ -197,11 +197,11 @@ run-judged : (w : World) (J : List Entry) (cs : List Call) → Judged w → Judg
 run-judged w J [] i = i
 run-judged w J (c ∷ cs) i =
     by-pick (λ (r : Run). Judged (r .world)) (stops w c) _ _ (λ _. i)
-    (λ e. run-judged (worldAfter w c) (noted (noteOf (w .hca .logs) c (answerOf w c)) J) cs (call-judged w c e i))
+    (λ e. run-judged (worldAfter w c) (noted (noteOf (w .hca .logs) c (answerTo w c)) J) cs (call-judged w c e i))
 
 start-judged : (w : World) → Started w → Judged w
 unfolding Judged
-start-judged w s k q e wr = let f : Free ≡ Running q 0 = sym (s .freed k) ∙ e in let z : _≡_ {A = ℕ} 0 1 = cc in absurd (omega arith)
+start-judged w s k q e wr = let f : Free ≡ Running 0 q = sym (s .freed k) ∙ e in let z : _≡_ {A = ℕ} 0 1 = cc in absurd (omega arith)
 
 -- ---- what a burst makes of the state
 
@@ -214,7 +214,7 @@ permitted asked code service = go (permits asked code service)
     go false e = let z : _≡_ {A = ℕ} 0 1 = cc in absurd (omega arith)
 
 -- the first burst sets the state
-first-along : (q : Request) (n : QpNumber) (mail before : List ℕ) → 16 ≤ length before → touched q ≡ rec.Qp n → writesOf q ≡ true → permissionOf q before ≡ Permitted
+first-along : (q : Request) (n : QpNumber) (mail before : List ℕ) → 16 ≤ length before → recordOf q ≡ rec.Qp n → writesOf q ≡ true → permissionOf q before ≡ Permitted
     → Along q (stateOf before) (serviceOf before) (stateOf (burst (byteOf q mail) (getD (burstsOf q) 0 0) before))
 unfolding stateOf
 first-along (request.Command (command.Sw2Hw (owned.Mpt x))) n mail before l y wr p = let z : _≡_ {A = ℕ} 0 1 = cc in absurd (omega arith)
@@ -230,13 +230,13 @@ first-along (request.Command (command.ModifyQp e x)) n mail before l y wr p =
 first-along (request.Engine (engine.ReadState x)) n mail before l y wr p = absurd (false≢true wr)
 first-along (request.Engine (engine.ReadNext x)) n mail before l y wr p = absurd (false≢true wr)
 first-along (request.Engine (engine.ReadAll x)) n mail before l y wr p = absurd (false≢true wr)
-first-along (request.Engine (engine.Write f x psn s)) n mail before l y wr p =
-    (permitted (move.Engine s) (stateOf before) (serviceOf before) p, state-first (request.Engine (engine.Write f x psn s)) s refl mail before l)
+first-along (request.Engine (engine.Write f s x psn)) n mail before l y wr p =
+    (permitted (move.Engine s) (stateOf before) (serviceOf before) p, state-first (request.Engine (engine.Write f s x psn)) s refl mail before l)
 
-psn-later : (p : Psn) (m : ℕ) → m < 2 → 0 < m → 0 < getD (psnBursts p) m 0
+psn-later : (p : PsnField) (m : ℕ) → m < 2 → 0 < m → 0 < getD (psnBursts p) m 0
 psn-later p m h k = let e : m ≡ 1 = omega arith in rw e (psn-place p)
   where
-    psn-place : (p : Psn) → 0 < psnPlace p / 16
+    psn-place : (p : PsnField) → 0 < psnPlace p / 16
     psn-place NextSend = lit< tt
     psn-place LastAcked = lit< tt
     psn-place Expected = lit< tt
@@ -251,7 +251,7 @@ later (request.Command (command.ModifyQp e n)) m h p = omega (arith, at-burst 0 
 later (request.Engine (engine.ReadState n)) m h p = absurd (omega arith)
 later (request.Engine (engine.ReadNext n)) m h p = psn-later NextSend m h p
 later (request.Engine (engine.ReadAll n)) m h p = omega (arith, at-burst 0 16 m h)
-later (request.Engine (engine.Write f n psn s)) m h p = psn-later f m h p
+later (request.Engine (engine.Write f s n psn)) m h p = psn-later f m h p
 
 -- a burst of another place leaves the state
 later-stays : (q : Request) (mail before : List ℕ) (j : ℕ) → 16 * j + 16 ≤ length before → 0 < j → stateOf (burst (byteOf q mail) j before) ≡ stateOf before
@@ -259,7 +259,7 @@ unfolding stateOf
 later-stays q mail before j l p = ap (λ (b : ℕ). b / 16) (burst-out (byteOf q mail) j before l 0 (λ i. omega (arith, i .0)))
 
 -- of any change of a queue pair's record
-state-moves : (w : World) (c : Call) (n : QpNumber) (before after : List ℕ) → Judged w → before ≡ recordOf (w .hca .logs) (rec.Qp n) (w .store)
+state-moves : (w : World) (c : Call) (n : QpNumber) (before after : List ℕ) → Judged w → before ≡ bytesOf (w .hca .logs) (rec.Qp n) (w .store)
     → Change w c (rec.Qp n) before after → StateMove w c (rec.Qp n) (stateOf before) (serviceOf before) (stateOf after)
 unfolding Judged recordNow
 state-moves w c n before after i b (kept e) = stays (ap stateOf e)
@@ -267,7 +267,7 @@ state-moves w c n before after i b (burstMoved k q zero e f h wr y l g) =
     moves k q e f y
     (subst (λ (r : List ℕ). Along q (stateOf before) (serviceOf before) (stateOf r)) (sym g)
     (first-along q n (frontOf k q (w .room)) before (omega (arith, l)) y wr
-    (ap (permissionOf q) (b ∙ ap (λ (X : Record). recordOf (w .hca .logs) X (w .store)) (sym y)) ∙ i k q f wr)))
+    (ap (permissionOf q) (b ∙ ap (λ (X : Record). bytesOf (w .hca .logs) X (w .store)) (sym y)) ∙ i k q f wr)))
 state-moves w c n before after i b (burstMoved k q (suc m) e f h wr y l g) =
     stays (ap stateOf g ∙ later-stays q (frontOf k q (w .room)) before (getD (burstsOf q) (suc m) 0) (omega (arith, l, inside)) (later q (suc m) h (omega arith)))
   where
@@ -279,5 +279,5 @@ pub demand2 : Statement
 demand2 before bytes mail i calls last e n v =
     let start : World = submitCommand before bytes mail .world in
     let end : World = runFrom start [] calls .world in
-    state-moves end last n (recordOf (end .hca .logs) (rec.Qp n) (end .store)) (recordOf (end .hca .logs) (rec.Qp n) (worldAfter end last .store))
+    state-moves end last n (bytesOf (end .hca .logs) (rec.Qp n) (end .store)) (bytesOf (end .hca .logs) (rec.Qp n) (worldAfter end last .store))
     (run-judged start [] calls (start-judged start (started before bytes mail i))) refl (records-framed end last e (rec.Qp n) v)

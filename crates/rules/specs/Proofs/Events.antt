@@ -35,7 +35,7 @@ use Rattle.rules.specs.Steps.{Stepped, moved, stepOf}
 use Rattle.rules.specs.Collections.{Collected, answerAt, collectOf}
 use Rattle.rules.specs.Resets.{Reset, resetOf}
 use Rattle.rules.specs.Book.{Fed, onRecord, closeHca, nop}
-use Rattle.rules.specs.Calls.{Call, Note, nothing, command, engineRequest, step, collection, resetting, answerOf, worldAfter, commandFound, engineFound, requestNote, commandNote, engineNote, collectNote, noteOf, isDone, isInit, initialises, resetEnds, stops}
+use Rattle.rules.specs.Calls.{Call, Note, nothing, command, engineRequest, step, collection, resetting, answerTo, worldAfter, commandFound, engineFound, requestNote, commandNote, engineNote, collectNote, noteOf, isDone, isInit, initialises, resetEnds, stops}
 use Rattle.rules.specs.Proofs.System.{Place, gate, at, gateBytes, gatedBy, Sees, Writes, eff, Left}
 use Rattle.rules.specs.Proofs.View.{lookAt, slotView, slotAt, Fine, Sized, lent-sized, open-fits, Runs, running, look-same, others, in-row}
 use Rattle.rules.specs.Proofs.Admitted.{noteFor, stays, Seen, seen-runs, admit-ok}
@@ -52,7 +52,7 @@ quiet mail (found.OnRecord d) c e = rw e
 quiet mail found.Wrong c e = refl
 
 pub engine-quiet : (f : EngineFound) (c : Refusal) → forState c ≡ false → nothing ≡ engineNote f (submit.Refused c)
-engine-quiet (asked′.Asked e) c h = rw h
+engine-quiet (asked′.OnRecord e) c h = rw h
 engine-quiet asked′.Wrong c h = refl
 
 -- ---- a step
@@ -72,7 +72,7 @@ module _ (w : World) (k : ℕ) (out : List ℕ) (q : Request) (c : Collecting w 
   sized = lent-sized w (c .lent)
 
   k8 : k < 8
-  k8 = in-row w sized k (λ f. let g : Finished q (c .moves) ≡ Free = sym (c .now) ∙ f in let x : _≡_ {A = ℕ} 0 1 = cc in omega arith)
+  k8 = in-row w sized k (λ f. let g : Finished (c .moves) q ≡ Free = sym (c .now) ∙ f in let x : _≡_ {A = ℕ} 0 1 = cc in omega arith)
 
   pub answer-long : length (answerAt w k q) ≡ answerSize q
   unfolding answerAt roomOf
@@ -168,7 +168,7 @@ engine-ok w n index psn code =
 reset-ok : (w : World) → resetEnds (resetOf w .answer) ≡ false → Fine w (resetOf w .world) none
 reset-ok w = reset-is w (λ (r : Reset). resetEnds (r .answer) ≡ false → Fine w (r .world) none) (λ _ _. stays w) (λ _ i. absurd (true≢false i))
 
-pub call-ok : (w : World) (c : Call) → stops w c ≡ false → Fine w (worldAfter w c) (noteFor (noteOf (w .hca .logs) c (answerOf w c)))
+pub call-ok : (w : World) (c : Call) → stops w c ≡ false → Fine w (worldAfter w c) (noteFor (noteOf (w .hca .logs) c (answerTo w c)))
 call-ok w (command bytes mail) i = command-ok w bytes mail i
 call-ok w (engineRequest n index psn code) i = engine-ok w n index psn code
 call-ok w (step k) i = step-ok w k

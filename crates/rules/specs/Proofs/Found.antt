@@ -12,25 +12,25 @@ use Rattle.context.specs.declared.QpFound.{QpFound}
 use Rattle.context.specs.declared.CqFound.{CqFound}
 use Rattle.context.specs.declared.EqFound.{EqFound}
 use Rattle.context.specs.declared.MptFound.{MptFound}
-use Rattle.commands.specs.Commands.{opModifierOf, onMpt, onEq, onCq, sw2hwOf, hw2swOf, resizeOf, queryOf, modifyOf, addressed, commandOf}
-use Rattle.engines.specs.Engines.{stateFrom, withState, engineOn, engineAt, engineOf}
+use Rattle.commands.specs.Commands.{opModifierOf, onMpt, onEq, onCq, sw2hwOf, hw2swOf, resizeOf, queryOf, modifyOf, addressed, readCommand}
+use Rattle.engines.specs.Engines.{stateFrom, writeFound, engineOn, engineAt, readEngine}
 use Rattle.requests.specs.Psns.{psnFits}
 use Rattle.requests.specs.declared.Command.{Command}
 use Rattle.commands.specs.declared.CommandFound.{CommandFound}
 use Rattle.commands.specs.declared.CommandFound.the-variants as found
-use Rattle.requests.specs.declared.Engine.{Engine}
-use Rattle.requests.specs.declared.Engine.the-variants as engine
+use Rattle.requests.specs.declared.EngineRequest.{EngineRequest}
+use Rattle.requests.specs.declared.EngineRequest.the-variants as engine
 use Rattle.engines.specs.declared.EngineFound.{EngineFound}
 use Rattle.engines.specs.declared.EngineFound.the-variants as asked
 use Rattle.engines.specs.declared.EngineNumber.{EngineNumber}
 use Rattle.engines.specs.declared.EngineNumber.the-variants as number
 use Rattle.commands.specs.declared.Op.{Op}
 use Rattle.commands.specs.declared.Op.the-variants as op
-use Rattle.requests.specs.declared.Psn.{Psn}
+use Rattle.requests.specs.declared.PsnField.{PsnField}
 use Rattle.engines.specs.declared.StateFound.{StateFound}
 use Rattle.engines.specs.declared.StateFound.the-variants as stateFound
 use Rattle.commands.specs.declared.Table.the-variants as table
-use Rattle.tables.specs.Records.{commandRecord, engineRecord}
+use Rattle.request_table.specs.Records.{commandRecord, engineRecord}
 use Rattle.rules.specs.Commands.{badSystem, isClose}
 
 -- what is found for a command: a record of the store, if it is a command on one
@@ -56,11 +56,11 @@ addressed-sound g op.ResizeCq n = by-pick (λ (x : CqFound). Sound g (resizeOf x
 addressed-sound g op.QueryQp n = by-pick (λ (x : QpFound). Sound g (queryOf x)) (ltb n (2 ^ g .qps)) _ _ (λ t. t) (λ _. tt)
 addressed-sound g (op.ModifyQp e) n = by-pick (λ (x : QpFound). Sound g (modifyOf e x)) (ltb n (2 ^ g .qps)) _ _ (λ t. t) (λ _. tt)
 
-command-sound : (g : Logs) (o : Op) (p n : ℕ) → Sound g (commandOf g o p n)
-unfolding commandOf
+command-sound : (g : Logs) (o : Op) (p n : ℕ) → Sound g (readCommand g o p n)
+unfolding readCommand
 command-sound g o p n = by-pick (Sound g) (eqb p (opModifierOf o)) (addressed g o n) found.Wrong (λ _. addressed-sound g o n) (λ _. tt)
 
-pub command-valid : (g : Logs) (o : Op) (p n : ℕ) (c : Command) → commandOf g o p n ≡ found.OnRecord c → isRecord g (commandRecord c) ≡ true
+pub command-valid : (g : Logs) (o : Op) (p n : ℕ) (c : Command) → readCommand g o p n ≡ found.OnRecord c → isRecord g (commandRecord c) ≡ true
 command-valid g o p n c e = subst (Sound g) e (command-sound g o p n)
 
 -- a command on a record is served while open only
@@ -92,14 +92,14 @@ addressed-open g op.ResizeCq n b e = needs-any b (addressed g op.ResizeCq n) (is
 addressed-open g op.QueryQp n b e = needs-any b (addressed g op.QueryQp n) (is-open b e)
 addressed-open g (op.ModifyQp x) n b e = needs-any b (addressed g (op.ModifyQp x) n) (is-open b e)
 
-found-open : (g : Logs) (o : Op) (p n : ℕ) (b : Bool) → badSystem b o ≡ false → Needs b (commandOf g o p n)
-unfolding commandOf
+found-open : (g : Logs) (o : Op) (p n : ℕ) (b : Bool) → badSystem b o ≡ false → Needs b (readCommand g o p n)
+unfolding readCommand
 found-open g o p n b e = by-pick (Needs b) (eqb p (opModifierOf o)) (addressed g o n) found.Wrong (λ _. addressed-open g o n b e) (λ _. tt)
 
-pub record-open : (g : Logs) (o : Op) (p n : ℕ) (c : Command) (b : Bool) → commandOf g o p n ≡ found.OnRecord c → badSystem b o ≡ false → b ≡ true
+pub record-open : (g : Logs) (o : Op) (p n : ℕ) (c : Command) (b : Bool) → readCommand g o p n ≡ found.OnRecord c → badSystem b o ≡ false → b ≡ true
 record-open g o p n c b e f = subst (Needs b) e (found-open g o p n b f)
 
-pub close-open : (g : Logs) (o : Op) (p n : ℕ) (b : Bool) → commandOf g o p n ≡ found.CloseHca → badSystem b o ≡ false → b ≡ true
+pub close-open : (g : Logs) (o : Op) (p n : ℕ) (b : Bool) → readCommand g o p n ≡ found.CloseHca → badSystem b o ≡ false → b ≡ true
 close-open g o p n b e f = subst (Needs b) e (found-open g o p n b f)
 
 -- INIT_HCA is served while closed only
@@ -124,11 +124,11 @@ shut g op.ResizeCq n b e = by-pick (λ (x : CqFound). Shut b (resizeOf x)) (ltb 
 shut g op.QueryQp n b e = by-pick (λ (x : QpFound). Shut b (queryOf x)) (ltb n (2 ^ g .qps)) _ _ (λ _. tt) (λ _. tt)
 shut g (op.ModifyQp y) n b e = by-pick (λ (x : QpFound). Shut b (modifyOf y x)) (ltb n (2 ^ g .qps)) _ _ (λ _. tt) (λ _. tt)
 
-found-shut : (g : Logs) (o : Op) (p n : ℕ) (b : Bool) → badSystem b o ≡ false → Shut b (commandOf g o p n)
-unfolding commandOf
+found-shut : (g : Logs) (o : Op) (p n : ℕ) (b : Bool) → badSystem b o ≡ false → Shut b (readCommand g o p n)
+unfolding readCommand
 found-shut g o p n b e = by-pick (Shut b) (eqb p (opModifierOf o)) (addressed g o n) found.Wrong (λ _. shut g o n b e) (λ _. tt)
 
-pub init-closed : (g : Logs) (o : Op) (p n : ℕ) (b : Bool) → commandOf g o p n ≡ found.InitHca → badSystem b o ≡ false → b ≡ false
+pub init-closed : (g : Logs) (o : Op) (p n : ℕ) (b : Bool) → readCommand g o p n ≡ found.InitHca → badSystem b o ≡ false → b ≡ false
 init-closed g o p n b e f = subst (Shut b) e (found-shut g o p n b f)
 
 -- only CLOSE_HCA's op closes
@@ -153,21 +153,21 @@ closes g op.ResizeCq n = by-pick (λ (x : CqFound). Closes false (resizeOf x)) (
 closes g op.QueryQp n = by-pick (λ (x : QpFound). Closes false (queryOf x)) (ltb n (2 ^ g .qps)) _ _ (λ _. tt) (λ _. tt)
 closes g (op.ModifyQp e) n = by-pick (λ (x : QpFound). Closes false (modifyOf e x)) (ltb n (2 ^ g .qps)) _ _ (λ _. tt) (λ _. tt)
 
-found-closes : (g : Logs) (o : Op) (p n : ℕ) → Closes (isClose o) (commandOf g o p n)
-unfolding commandOf
+found-closes : (g : Logs) (o : Op) (p n : ℕ) → Closes (isClose o) (readCommand g o p n)
+unfolding readCommand
 found-closes g o p n = by-pick (Closes (isClose o)) (eqb p (opModifierOf o)) (addressed g o n) found.Wrong (λ _. closes g o n) (λ _. tt)
 
-pub close-op : (g : Logs) (o : Op) (p n : ℕ) → commandOf g o p n ≡ found.CloseHca → isClose o ≡ true
+pub close-op : (g : Logs) (o : Op) (p n : ℕ) → readCommand g o p n ≡ found.CloseHca → isClose o ≡ true
 close-op g o p n e = subst (Closes (isClose o)) e (found-closes g o p n)
 
 -- ---- engine requests
 
 abbrev SoundEngine : Logs → EngineFound → Type 0
-SoundEngine g (asked.Asked e) = isRecord g (engineRecord e) ≡ true
+SoundEngine g (asked.OnRecord e) = isRecord g (engineRecord e) ≡ true
 SoundEngine g asked.Wrong = Unit {0}
 
-state-sound : (g : Logs) (p : Psn) (n psn : ℕ) (s : StateFound) → isRecord g (engineRecord (engine.ReadState (record { 0 = n }))) ≡ true
-    → SoundEngine g (withState p (record { 0 = n }) psn s)
+state-sound : (g : Logs) (p : PsnField) (n psn : ℕ) (s : StateFound) → isRecord g (engineRecord (engine.ReadState (record { 0 = n }))) ≡ true
+    → SoundEngine g (writeFound p (record { 0 = n }) psn s)
 state-sound g p n psn (stateFound.State s) t = t
 state-sound g p n psn stateFound.OutOfRange t = tt
 
@@ -177,12 +177,12 @@ on-sound g number.ReadState n psn code t = t
 on-sound g number.ReadNext n psn code t = t
 on-sound g number.ReadAll n psn code t = t
 on-sound g (number.Write p) n psn code t =
-    by-pick (SoundEngine g) (psnFits psn) (withState p (record { 0 = n }) psn (stateFrom code)) asked.Wrong (λ _. state-sound g p n psn (stateFrom code) t) (λ _. tt)
+    by-pick (SoundEngine g) (psnFits psn) (writeFound p (record { 0 = n }) psn (stateFrom code)) asked.Wrong (λ _. state-sound g p n psn (stateFrom code) t) (λ _. tt)
 
-engine-sound : (g : Logs) (k : EngineNumber) (index psn code : ℕ) → SoundEngine g (engineOf g k index psn code)
-unfolding engineOf isRecord
+engine-sound : (g : Logs) (k : EngineNumber) (index psn code : ℕ) → SoundEngine g (readEngine g k index psn code)
+unfolding readEngine isRecord
 engine-sound g k index psn code =
     by-pick (λ (x : QpFound). SoundEngine g (engineAt k x psn code)) (ltb index (2 ^ g .qps)) _ _ (λ t. on-sound g k index psn code t) (λ _. tt)
 
-pub engine-valid : (g : Logs) (k : EngineNumber) (index psn code : ℕ) (e : Engine) → engineOf g k index psn code ≡ asked.Asked e → isRecord g (engineRecord e) ≡ true
+pub engine-valid : (g : Logs) (k : EngineNumber) (index psn code : ℕ) (e : EngineRequest) → readEngine g k index psn code ≡ asked.OnRecord e → isRecord g (engineRecord e) ≡ true
 engine-valid g k index psn code e h = subst (SoundEngine g) h (engine-sound g k index psn code)

@@ -5,11 +5,11 @@ use mathlib.Core.List.{List}
 use Prim.Native.Nat.{ℕ, _≤_}
 use lib.ListN.{length, getD}
 use Rattle.words.specs.Choice.{pick}
-use Rattle.context.specs.Layout.{isRecord, recordOf, inUse}
+use Rattle.context.specs.Layout.{isRecord, bytesOf, inUse}
 use Rattle.context.specs.Records.{record?}
 use Rattle.context.specs.declared.Record.{Record}
 use Rattle.requests.specs.declared.Request.{Request}
-use Rattle.tables.specs.Records.{recordOf as touched, writesOf}
+use Rattle.request_table.specs.Records.{recordOf, writesOf}
 use Rattle.burst_table.specs.Bursts.{burstsOf}
 use Rattle.byte_rule.specs.Bytes.{byteOf}
 use Rattle.bursts.specs.Bursts.{burst}
@@ -82,11 +82,11 @@ reset-stores w = reset-is w (λ (r : Reset). r .world .store ≡ w .store) (λ _
 -- a step changes the record that its request writes, by one burst, and no other
 module _ (w : World) (k : ℕ) (X : Record) (valid : isRecord (w .hca .logs) X ≡ true) where
   Changed : World → Type 0
-  Changed u = Change w (step k) X (recordOf (w .hca .logs) X (w .store)) (recordOf (w .hca .logs) X (u .store))
+  Changed u = Change w (step k) X (bytesOf (w .hca .logs) X (w .store)) (bytesOf (w .hca .logs) X (u .store))
 
   burst-changed : (q : Request) (m : ℕ) → Stepping w k q m → Changed (moved w k q m)
   unfolding Changed moved
-  burst-changed q m s = here (record? (touched q) X) (writesOf q) refl
+  burst-changed q m s = here (record? (recordOf q) X) (writesOf q) refl
     where
       r : Runs w q m
       r = running w (s .possible) (s .opened) k q m (s .now)
@@ -94,24 +94,24 @@ module _ (w : World) (k : ℕ) (X : Record) (valid : isRecord (w .hca .logs) X �
       fits : inUse (w .hca .logs) ≤ length (w .store)
       fits = open-fits w (s .lent) (s .possible) (s .opened)
 
-      was : lookAt w (at X) ≡ recordOf (w .hca .logs) X (w .store)
+      was : lookAt w (at X) ≡ bytesOf (w .hca .logs) X (w .store)
       was = look-valid w X valid
 
-      is : lookAt (moved w k q m) (at X) ≡ recordOf (w .hca .logs) X (moved w k q m .store)
+      is : lookAt (moved w k q m) (at X) ≡ bytesOf (w .hca .logs) X (moved w k q m .store)
       is = look-valid (moved w k q m) X valid
 
       -- the request's own record
-      own : (t : Bool) → writesOf q ≡ t → touched q ≡ X
-          → recordOf (w .hca .logs) X (moved w k q m .store)
-          ≡ pick t (burst (byteOf q (frontOf k q (w .room))) (getD (burstsOf q) m 0) (recordOf (w .hca .logs) X (w .store))) (recordOf (w .hca .logs) X (w .store))
+      own : (t : Bool) → writesOf q ≡ t → recordOf q ≡ X
+          → bytesOf (w .hca .logs) X (moved w k q m .store)
+          ≡ pick t (burst (byteOf q (frontOf k q (w .room))) (getD (burstsOf q) m 0) (bytesOf (w .hca .logs) X (w .store))) (bytesOf (w .hca .logs) X (w .store))
       own t f y =
           sym is
           ∙ subst (λ (Y : Record). lookAt (moved w k q m) (at Y) ≡ pick (writesOf q) (burst (byteOf q (frontOf k q (w .room))) (getD (burstsOf q) m 0) (lookAt w (at Y))) (lookAt w (at Y))) y
           (own-record w (lent-sized w (s .lent)) fits k q m (s .now) (r .valid) (r .more))
           ∙ ap (λ (l : List ℕ). pick (writesOf q) (burst (byteOf q (frontOf k q (w .room))) (getD (burstsOf q) m 0) l) l) was
-          ∙ ap (λ (c : Bool). pick c (burst (byteOf q (frontOf k q (w .room))) (getD (burstsOf q) m 0) (recordOf (w .hca .logs) X (w .store))) (recordOf (w .hca .logs) X (w .store))) f
+          ∙ ap (λ (c : Bool). pick c (burst (byteOf q (frontOf k q (w .room))) (getD (burstsOf q) m 0) (bytesOf (w .hca .logs) X (w .store))) (bytesOf (w .hca .logs) X (w .store))) f
 
-      here : Dec (touched q ≡ X) → (t : Bool) → writesOf q ≡ t → Changed (moved w k q m)
+      here : Dec (recordOf q ≡ X) → (t : Bool) → writesOf q ≡ t → Changed (moved w k q m)
       here (no n) t f = kept (sym is ∙ other-record w (lent-sized w (s .lent)) fits k q m (s .now) (r .valid) (r .more) X n ∙ was)
       here (yes y) true f = burstMoved k q m refl (s .now) (r .more) f y (ap length (sym was) ∙ length-look w fits X valid) (own true f y)
       here (yes y) false f = kept (own false f y)
@@ -123,8 +123,8 @@ module _ (w : World) (k : ℕ) (X : Record) (valid : isRecord (w .hca .logs) X �
 -- Every call but an initialisation: of every record of the store, what the call makes of it.
 pub records-framed : Records
 unfolding Changed
-records-framed w (command bytes mail) i X v = kept (ap (recordOf (w .hca .logs) X) (stores w bytes mail i))
-records-framed w (engineRequest n index psn code) i X v = kept (ap (recordOf (w .hca .logs) X) (engine-stores w n index psn code))
+records-framed w (command bytes mail) i X v = kept (ap (bytesOf (w .hca .logs) X) (stores w bytes mail i))
+records-framed w (engineRequest n index psn code) i X v = kept (ap (bytesOf (w .hca .logs) X) (engine-stores w n index psn code))
 records-framed w (step k) i X v = step-changed w k X v
-records-framed w (collection k out) i X v = kept (ap (recordOf (w .hca .logs) X) (collect-stores w k out))
-records-framed w resetting i X v = kept (ap (recordOf (w .hca .logs) X) (reset-stores w))
+records-framed w (collection k out) i X v = kept (ap (bytesOf (w .hca .logs) X) (collect-stores w k out))
+records-framed w resetting i X v = kept (ap (bytesOf (w .hca .logs) X) (reset-stores w))

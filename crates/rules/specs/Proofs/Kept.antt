@@ -1,4 +1,4 @@
--- The frame is proved, but for refusals and records (Frame): the burst that a step makes, the request that a submission takes, and
+-- The frame is proved, but for refusals and records (Frame): the burst that a step makes, the request that a submission takesSlot, and
 -- what every call leaves of the store, the room, the row, the state and the buffer.
 use mathlib.Core.Path.{_≡_, refl, sym, _∙_, ap}
 use mathlib.Core.Bool.{Bool, true, false, true≢false, false≢true}
@@ -14,17 +14,17 @@ use lib.ListN.{length, getD, drop, set, length-set, replicate, length-replicate}
 use lib.Seq.{getD-append-add, getD-drop, getD-set-same, getD-set-other}
 use Rattle.words.specs.Choice.{pick, by-pick}
 use Rattle.words.specs.Parts.{part, splice, length-part, length-splice, splice-below, splice-above, splice-inside}
-use Rattle.context.specs.Layout.{recordOf, inUse}
+use Rattle.context.specs.Layout.{bytesOf, inUse}
 use Rattle.context.specs.Init.{initOf}
 use Rattle.context.specs.Counts.{init-fits}
-use Rattle.context.specs.declared.Init.the-variants as init
+use Rattle.context.specs.declared.InitFound.the-variants as init
 use Rattle.context.specs.declared.Logs.{Logs}
 use Rattle.requests.specs.declared.Request.{Request}
 use Rattle.requests.specs.declared.Request.the-variants as request
 use Rattle.commands.specs.declared.CommandFound.{CommandFound}
 use Rattle.engines.specs.declared.EngineFound.{EngineFound}
-use Rattle.tables.specs.Records.{recordOf as touched, writesOf}
-use Rattle.tables.specs.Mailboxes.{needOf}
+use Rattle.request_table.specs.Records.{recordOf, writesOf}
+use Rattle.request_table.specs.Mailboxes.{needOf}
 use Rattle.burst_table.specs.Bursts.{burstsOf}
 use Rattle.answers.specs.Answers.{answerSize}
 use Rattle.byte_rule.specs.Bytes.{byteOf}
@@ -49,7 +49,7 @@ use Rattle.rules.specs.Collections.{Collected, answerAt, collectOf}
 use Rattle.rules.specs.Resets.{Reset}
 use Rattle.rules.specs.Book.{Fed, onRecord, closeHca, nop}
 use Rattle.rules.specs.Calls.{Note, nothing, accepted as noted, finished, command, engineRequest, step, collection, resetting, submitted, resetDone, requestNote, commandNote, engineNote, collectNote}
-use Rattle.rules.specs.Frames.{refusedStep, takes, empties, atOnce, answerBytes, inBurst, Written, Copied, Elsewhere, Behind, Taken, Rooms, Rows, Emptied, Opens, Counts, Sizes, Buffers}
+use Rattle.rules.specs.Frames.{refusedStep, takesSlot, empties, atOnce, answerBytes, inBurst, Written, Copied, Elsewhere, Behind, Taken, Rooms, Rows, Emptied, Opens, Counts, Sizes, Buffers}
 use Rattle.rules.specs.Proofs.System.{at}
 use Rattle.rules.specs.Proofs.View.{lookAt, look-valid, Sized, sized, lent-sized, open-fits, Runs, running}
 use Rattle.rules.specs.Proofs.Moved.{own-record, read-copied, write-room, read-store, outside-kept, in-use, room-kept, store-length, room-length}
@@ -69,20 +69,20 @@ module _ (w : World) (k : ℕ) (q : Request) (m : ℕ) (s : Stepping w k q m) wh
   fits : inUse (w .hca .logs) ≤ length (w .store)
   fits = open-fits w (s .lent) (s .possible) (s .opened)
 
-  was : lookAt w (at (touched q)) ≡ recordOf (w .hca .logs) (touched q) (w .store)
-  was = look-valid w (touched q) (r .valid)
+  was : lookAt w (at (recordOf q)) ≡ bytesOf (w .hca .logs) (recordOf q) (w .store)
+  was = look-valid w (recordOf q) (r .valid)
 
-  moved-writes : writesOf q ≡ true → recordOf (w .hca .logs) (touched q) (moved w k q m .store)
-      ≡ burst (byteOf q (frontOf k q (w .room))) (getD (burstsOf q) m 0) (recordOf (w .hca .logs) (touched q) (w .store))
+  moved-writes : writesOf q ≡ true → bytesOf (w .hca .logs) (recordOf q) (moved w k q m .store)
+      ≡ burst (byteOf q (frontOf k q (w .room))) (getD (burstsOf q) m 0) (bytesOf (w .hca .logs) (recordOf q) (w .store))
   unfolding moved
   moved-writes e =
-      sym (look-valid (moved w k q m) (touched q) (r .valid))
+      sym (look-valid (moved w k q m) (recordOf q) (r .valid))
       ∙ own-record w z fits k q m (s .now) (r .valid) (r .more)
-      ∙ ap (λ (b : Bool). pick b (burst (byteOf q (frontOf k q (w .room))) (getD (burstsOf q) m 0) (lookAt w (at (touched q)))) (lookAt w (at (touched q)))) e
+      ∙ ap (λ (b : Bool). pick b (burst (byteOf q (frontOf k q (w .room))) (getD (burstsOf q) m 0) (lookAt w (at (recordOf q)))) (lookAt w (at (recordOf q)))) e
       ∙ ap (burst (byteOf q (frontOf k q (w .room))) (getD (burstsOf q) m 0)) was
 
   moved-reads : writesOf q ≡ false
-      → roomOf k (moved w k q m .room) ≡ copy (getD (burstsOf q) m 0) (recordOf (w .hca .logs) (touched q) (w .store)) (roomOf k (w .room))
+      → roomOf k (moved w k q m .room) ≡ copy (getD (burstsOf q) m 0) (bytesOf (w .hca .logs) (recordOf q) (w .store)) (roomOf k (w .room))
   moved-reads e =
       read-copied w z fits k q m (s .now) (r .valid) (r .more) e
       ∙ ap (λ (c : List ℕ). copy (getD (burstsOf q) m 0) c (roomOf k (w .room))) was
@@ -109,11 +109,11 @@ module _ (w : World) (k : ℕ) (q : Request) (m : ℕ) (s : Stepping w k q m) wh
   moved-room = room-length w z fits k q m (s .now) (r .valid) (r .more)
 
 -- the request that runs in a slot is one
-same-running : (q r : Request) (m n : ℕ) → Running q m ≡ Running r n → (P : Request → ℕ → Type 0) → P r n → P q m
+same-running : (q r : Request) (m n : ℕ) → Running m q ≡ Running n r → (P : Request → ℕ → Type 0) → P r n → P q m
 same-running q r m n e P p = let f : q ≡ r = cc in let g : m ≡ n = cc in rw (f, g) p
 
 -- what a step that is not refused makes, of the request that runs in its slot
-module _ (w : World) (k : ℕ) (q : Request) (m : ℕ) (now : statusAt k (w .row) ≡ Running q m) (P : Request → ℕ → World → Type 0)
+module _ (w : World) (k : ℕ) (q : Request) (m : ℕ) (now : statusAt k (w .row) ≡ Running m q) (P : Request → ℕ → World → Type 0)
     (moves : (s : Stepping w k q m) → P q m (moved w k q m)) where
   step-makes : refusedStep (stepOf w k .answer) ≡ false → P q m (stepOf w k .world)
   step-makes =
@@ -123,14 +123,14 @@ module _ (w : World) (k : ℕ) (q : Request) (m : ℕ) (now : statusAt k (w .row
 pub written : Written
 written w k q m now e wr =
     step-makes w k q m now
-    (λ (x : Request) (y : ℕ) (u : World). (recordOf (w .hca .logs) (touched x) (u .store)
-    ≡ burst (byteOf x (frontOf k x (w .room))) (getD (burstsOf x) y 0) (recordOf (w .hca .logs) (touched x) (w .store))) × (u .room ≡ w .room))
+    (λ (x : Request) (y : ℕ) (u : World). (bytesOf (w .hca .logs) (recordOf x) (u .store)
+    ≡ burst (byteOf x (frontOf k x (w .room))) (getD (burstsOf x) y 0) (bytesOf (w .hca .logs) (recordOf x) (w .store))) × (u .room ≡ w .room))
     (λ s. (moved-writes w k q m s wr, moved-leaves-room w k q m s wr)) e
 
 pub copied : Copied
 copied w k q m now e rd =
     step-makes w k q m now
-    (λ (x : Request) (y : ℕ) (u : World). (roomOf k (u .room) ≡ copy (getD (burstsOf x) y 0) (recordOf (w .hca .logs) (touched x) (w .store)) (roomOf k (w .room)))
+    (λ (x : Request) (y : ℕ) (u : World). (roomOf k (u .room) ≡ copy (getD (burstsOf x) y 0) (bytesOf (w .hca .logs) (recordOf x) (w .store)) (roomOf k (w .room)))
     × (u .store ≡ w .store))
     (λ s. (moved-reads w k q m s rd, moved-leaves-store w k q m s rd)) e
 
@@ -146,7 +146,7 @@ elsewhere w (step k) e i n =
     step-is w k (λ (s : Stepped). getD (s .world .store) i 0 ≡ getD (w .store) i 0) (λ _. refl)
     (λ q m s. moved-outside w k q m s i (λ wr. side q m (s .now) wr (decLt i (burstAt w q m)) (decLt i (burstAt w q m + 16))))
   where
-    side : (q : Request) (m : ℕ) → statusAt k (w .row) ≡ Running q m → writesOf q ≡ true → Dec (i < burstAt w q m) → Dec (i < burstAt w q m + 16)
+    side : (q : Request) (m : ℕ) → statusAt k (w .row) ≡ Running m q → writesOf q ≡ true → Dec (i < burstAt w q m) → Dec (i < burstAt w q m + 16)
         → (i < burstAt w q m) ⊎ (burstAt w q m + 16 ≤ i)
     side q m now wr (yes a) b = inl a
     side q m now wr (no a) (yes b) = absurd (n (inBurst k q m now wr (omega arith) b))
@@ -211,7 +211,7 @@ module _ (w : World) (q : Request) (mail : List ℕ) (k : ℕ) (t : Taking w q m
   taken-length = length-splice (k * slotRoom) (part 0 (needOf q) mail) (w .room) front-fits
 
 abbrev RoomKept : World → ℕ → Submitted → Type 0
-RoomKept w i s = takes (submitted (s .answer)) (i / slotRoom) ≡ false → getD (s .world .room) i 0 ≡ getD (w .room) i 0
+RoomKept w i s = takesSlot (submitted (s .answer)) (i / slotRoom) ≡ false → getD (s .world .room) i 0 ≡ getD (w .room) i 0
 
 pub rooms : Rooms
 unfolding closed initialised
@@ -231,7 +231,7 @@ unfolding statusAt
 set-other row k j s e = ap (λ (x : Slot). x .status) (getD-set-other row k j s (slot Free) (not-same k j e))
 
 abbrev SlotKept : World → ℕ → Submitted → Type 0
-SlotKept w j s = takes (submitted (s .answer)) j ≡ false → statusAt j (s .world .row) ≡ statusAt j (w .row)
+SlotKept w j s = takesSlot (submitted (s .answer)) j ≡ false → statusAt j (s .world .row) ≡ statusAt j (w .row)
 
 pub rows : Rows
 unfolding taken closed initialised moved
@@ -261,7 +261,7 @@ emptied w resetting e =
 -- ---- a request that is accepted
 
 abbrev TakenAs : Request → List ℕ → ℕ → World → World → Type 0
-TakenAs q front k w u = (statusAt k (u .row) ≡ Running q 0) × (roomOf k (u .room) ≡ splice 0 front (roomOf k (w .room)))
+TakenAs q front k w u = (statusAt k (u .row) ≡ Running 0 q) × (roomOf k (u .room) ≡ splice 0 front (roomOf k (w .room)))
 
 -- two notes of an acceptance that are one
 same-note : (q r : Request) (a b : List ℕ) (j k : ℕ) → noted (onRecord q a) j ≡ noted (onRecord r b) k → (P : Request → List ℕ → ℕ → Type 0) → P q a j → P r b k
@@ -293,7 +293,7 @@ module _ (w : World) (r : Request) (front : List ℕ) (k : ℕ) where
       accepts : (j : ℕ) → Taking w q mail j → noted (onRecord q (part 0 (needOf q) mail)) j ≡ noted (onRecord r front) k → TakenAs r front k w (taken w q mail j)
       accepts j t e =
           same-note q r (part 0 (needOf q) mail) front j k e (λ (x : Request) (a : List ℕ) (i : ℕ). TakenAs x a i w (taken w q mail j)) (
-            ap (λ (s : Slot). s .status) (getD-set-same (w .row) j (slot (Running q 0)) (slot Free) (lowest-free-is (w .row) j (t .lowest) .inside)),
+            ap (λ (s : Slot). s .status) (getD-set-same (w .row) j (slot (Running 0 q)) (slot Free) (lowest-free-is (w .row) j (t .lowest) .inside)),
             ap (λ (n : ℕ). part (j * slotRoom) slotRoom (splice n (part 0 (needOf q) mail) (w .room))) (sym (add-zero (j * slotRoom)))
                 ∙ splice-inside (j * slotRoom) slotRoom 0 (part 0 (needOf q) mail) (w .room) (slot-fits w q mail j t) (omega (arith, front-long w q mail j t, need-small q)),
           )

@@ -13,16 +13,16 @@ use lib.ListN.{length, getD, drop, drop-of-length-le}
 use lib.Seq.{getD-set-same, drop-cons}
 use Rattle.words.specs.Choice.{pick, by-pick}
 use Rattle.words.specs.Parts.{part, splice, length-part, splice-below, splice-above}
-use Rattle.context.specs.Layout.{isRecord, recordOf, recordAt, recordSize, inUse}
+use Rattle.context.specs.Layout.{isRecord, bytesOf, recordAt, recordSize, inUse}
 use Rattle.context.specs.Records.{record-inside, records-apart}
 use Rattle.context.specs.Tables.{Apart}
 use Rattle.context.specs.declared.Record.{Record}
 use Rattle.requests.specs.declared.Command.the-variants as command
-use Rattle.requests.specs.declared.Engine.the-variants as engine
+use Rattle.requests.specs.declared.EngineRequest.the-variants as engine
 use Rattle.requests.specs.declared.Request.{Request}
 use Rattle.requests.specs.declared.Request.the-variants as request
-use Rattle.tables.specs.Records.{recordOf as touched, writesOf}
-use Rattle.tables.specs.Mailboxes.{needOf}
+use Rattle.request_table.specs.Records.{recordOf, writesOf}
+use Rattle.request_table.specs.Mailboxes.{needOf}
 use Rattle.burst_table.specs.Bursts.{burstsOf, totalOf, offsetOf}
 use Rattle.answers.specs.Answers.{answerOf}
 use Rattle.byte_rule.specs.Bytes.{byteOf}
@@ -44,7 +44,7 @@ use Rattle.rules.specs.Book.{onRecord}
 use Rattle.rules.specs.Proofs.System.{Place, gate, at, choose-yes, Writes, writes?, eff, left, MidOf}
 use Rattle.rules.specs.Proofs.View.{lookAt, slotView, slotAt, Fine, Sized, look-valid, others, in-row}
 
-no-free : (q : Request) (m : ℕ) (s : Status) → s ≡ Running q m → ¬ (s ≡ Free)
+no-free : (q : Request) (m : ℕ) (s : Status) → s ≡ Running m q → ¬ (s ≡ Free)
 no-free q m s e f = let z : _≡_ {A = ℕ} 0 1 = cc in omega arith
 
 -- a writer's answer is empty
@@ -57,10 +57,10 @@ writer-answer (request.Command (command.ModifyQp x n)) p c e = refl
 writer-answer (request.Engine (engine.ReadState n)) p c e = absurd (false≢true e)
 writer-answer (request.Engine (engine.ReadNext n)) p c e = absurd (false≢true e)
 writer-answer (request.Engine (engine.ReadAll n)) p c e = absurd (false≢true e)
-writer-answer (request.Engine (engine.Write x n psn s)) p c e = refl
+writer-answer (request.Engine (engine.Write x s n psn)) p c e = refl
 
 module _ (w : World) (z : Sized w) (fits : inUse (w .hca .logs) ≤ length (w .store)) (k : ℕ) (q : Request) (m : ℕ)
-    (now : statusAt k (w .row) ≡ Running q m) (valid : isRecord (w .hca .logs) (touched q) ≡ true) (more : m < totalOf q) where
+    (now : statusAt k (w .row) ≡ Running m q) (valid : isRecord (w .hca .logs) (recordOf q) ≡ true) (more : m < totalOf q) where
   u : World
   u = moved w k q m
 
@@ -77,25 +77,25 @@ module _ (w : World) (z : Sized w) (fits : inUse (w .hca .logs) ≤ length (w .s
   k8 = in-row w z k (no-free q m (statusAt k (w .row)) now)
 
   start : ℕ
-  start = recordAt (w .hca .logs) (touched q)
+  start = recordAt (w .hca .logs) (recordOf q)
 
   offset-is : offsetOf q m ≡ 16 * j
   unfolding j
   offset-is = offset-burst q m
 
-  in-record : 16 * j + 16 ≤ recordSize (touched q)
+  in-record : 16 * j + 16 ≤ recordSize (recordOf q)
   in-record = omega (arith, offset-is, offset-small q m more)
 
   in-room : 16 * j + 16 ≤ 256
   in-room = omega (arith, offset-is, offset-room q m more)
 
-  record-fits : start + recordSize (touched q) ≤ length (w .store)
+  record-fits : start + recordSize (recordOf q) ≤ length (w .store)
   unfolding start
-  record-fits = omega (arith, record-inside (w .hca .logs) (touched q) valid)
+  record-fits = omega (arith, record-inside (w .hca .logs) (recordOf q) valid)
 
   at-is : burstAt w q m ≡ start + 16 * j
   unfolding burstAt start
-  at-is = ap (λ (n : ℕ). recordAt (w .hca .logs) (touched q) + n) offset-is
+  at-is = ap (λ (n : ℕ). recordAt (w .hca .logs) (recordOf q) + n) offset-is
 
   -- the bursts from the m-th on are burst j and those behind it
   rest : drop m (burstsOf q) ≡ j ∷ drop (suc m) (burstsOf q)
@@ -106,17 +106,17 @@ module _ (w : World) (z : Sized w) (fits : inUse (w .hca .logs) ≤ length (w .s
   unfolding mail buf
   was = ap (slotView k (w .room)) now
 
-  next : statusAt k (u .row) ≡ advancedStatus (Running q m)
+  next : statusAt k (u .row) ≡ advancedStatus (Running m q)
   unfolding u moved slotMoved statusAt
   next =
       ap (λ (s : Slot). s .status) (getD-set-same (w .row) k (advanced (getD (w .row) k (slot Free))) (slot Free) (omega (arith, z .rowed, k8)))
       ∙ ap advancedStatus now
 
-  next-more : m + 1 < totalOf q → statusAt k (u .row) ≡ Running q (m + 1)
-  next-more h = next ∙ by-pick (λ (s : Status). s ≡ Running q (m + 1)) (ltb (m + 1) (totalOf q)) _ _ (λ _. refl) (λ e. absurd (omega (arith, ltb-false (m + 1) (totalOf q) e)))
+  next-more : m + 1 < totalOf q → statusAt k (u .row) ≡ Running (m + 1) q
+  next-more h = next ∙ by-pick (λ (s : Status). s ≡ Running (m + 1) q) (ltb (m + 1) (totalOf q)) _ _ (λ _. refl) (λ e. absurd (omega (arith, ltb-false (m + 1) (totalOf q) e)))
 
-  next-last : totalOf q ≤ m + 1 → statusAt k (u .row) ≡ Finished q (totalOf q)
-  next-last h = next ∙ by-pick (λ (s : Status). s ≡ Finished q (totalOf q)) (ltb (m + 1) (totalOf q)) _ _ (λ e. absurd (omega (arith, ltb-true (m + 1) (totalOf q) e))) (λ _. refl)
+  next-last : totalOf q ≤ m + 1 → statusAt k (u .row) ≡ Finished (totalOf q) q
+  next-last h = next ∙ by-pick (λ (s : Status). s ≡ Finished (totalOf q) q) (ltb (m + 1) (totalOf q)) _ _ (λ e. absurd (omega (arith, ltb-true (m + 1) (totalOf q) e))) (λ _. refl)
 
   none-left : totalOf q ≤ m + 1 → drop (suc m) (burstsOf q) ≡ []
   none-left h = drop-of-length-le (burstsOf q) {i = suc m} (omega (arith, total-bursts q))
@@ -133,21 +133,21 @@ module _ (w : World) (z : Sized w) (fits : inUse (w .hca .logs) ≤ length (w .s
     unfolding u moved roomMoved
     room-is = ap (λ (b : Bool). pick b (w .room) (copyAt (burstAt w q m) (w .store) (k * slotRoom + offsetOf q m) (w .room))) wr
 
-    put : lookAt u (at (touched q)) ≡ burst (byteOf q mail) j (lookAt w (at (touched q)))
-    unfolding u moved recordOf start
+    put : lookAt u (at (recordOf q)) ≡ burst (byteOf q mail) j (lookAt w (at (recordOf q)))
+    unfolding u moved bytesOf start
     put =
-        look-valid u (touched q) valid
-        ∙ ap (part (recordAt (w .hca .logs) (touched q)) (recordSize (touched q))) store-is
-        ∙ writeAt-record q mail (recordAt (w .hca .logs) (touched q)) (recordSize (touched q)) j (w .store) record-fits in-record
-        ∙ ap (burst (byteOf q mail) j) (sym (look-valid w (touched q) valid))
+        look-valid u (recordOf q) valid
+        ∙ ap (part (recordAt (w .hca .logs) (recordOf q)) (recordSize (recordOf q))) store-is
+        ∙ writeAt-record q mail (recordAt (w .hca .logs) (recordOf q)) (recordSize (recordOf q)) j (w .store) record-fits in-record
+        ∙ ap (burst (byteOf q mail) j) (sym (look-valid w (recordOf q) valid))
 
     elsewhere : (X : Place) → ¬ Writes (onRecord q mail) X → lookAt w X ≡ lookAt u X
-    unfolding u moved recordOf start
+    unfolding u moved bytesOf start
     elsewhere gate n = refl
     elsewhere (at X) n = go (isRecord (w .hca .logs) X) refl
       where
-        turned : Apart (recordAt (w .hca .logs) (touched q)) (recordSize (touched q)) (recordAt (w .hca .logs) X) (recordSize X)
-            → (recordAt (w .hca .logs) (touched q) + 16 * j + 16 ≤ recordAt (w .hca .logs) X) ⊎ (recordAt (w .hca .logs) X + recordSize X ≤ recordAt (w .hca .logs) (touched q) + 16 * j)
+        turned : Apart (recordAt (w .hca .logs) (recordOf q)) (recordSize (recordOf q)) (recordAt (w .hca .logs) X) (recordSize X)
+            → (recordAt (w .hca .logs) (recordOf q) + 16 * j + 16 ≤ recordAt (w .hca .logs) X) ⊎ (recordAt (w .hca .logs) X + recordSize X ≤ recordAt (w .hca .logs) (recordOf q) + 16 * j)
         turned (inl h) = inl (omega (arith, in-record))
         turned (inr h) = inr (omega arith)
 
@@ -156,9 +156,9 @@ module _ (w : World) (z : Sized w) (fits : inUse (w .hca .logs) ≤ length (w .s
         go false e = refl
         go true e =
             sym (ap (part (recordAt (w .hca .logs) X) (recordSize X)) store-is
-            ∙ writeAt-apart q mail (recordAt (w .hca .logs) (touched q) + 16 * j) (16 * j) (w .store) (omega (arith, record-fits, in-record))
+            ∙ writeAt-apart q mail (recordAt (w .hca .logs) (recordOf q) + 16 * j) (16 * j) (w .store) (omega (arith, record-fits, in-record))
             (recordAt (w .hca .logs) X) (recordSize X) (omega (arith, record-inside (w .hca .logs) X e))
-            (turned (records-apart (w .hca .logs) (touched q) X valid e (λ f. n (subst T (sym wr) tt, sym f)))))
+            (turned (records-apart (w .hca .logs) (recordOf q) X valid e (λ f. n (subst T (sym wr) tt, sym f)))))
 
     but : (i : ℕ) → ¬ (i ≡ k) → slotAt u i ≡ slotAt w i
     unfolding u moved
@@ -173,19 +173,19 @@ module _ (w : World) (z : Sized w) (fits : inUse (w .hca .logs) ≤ length (w .s
       ended = _;
       event =
           last (onRecord q mail) k (left (drop m (burstsOf q)) buf) (answerOf q buf) was
-          (ap (slotView k (u .room)) (next-last h) ∙ shown (Finished q (totalOf q))) but elsewhere
-          (λ t x. (writer-answer q (t (at (touched q))) buf wr, λ X. whole t x X));
+          (ap (slotView k (u .room)) (next-last h) ∙ shown (Finished (totalOf q) q)) but elsewhere
+          (λ t x. (writer-answer q (t (at (recordOf q))) buf wr, λ X. whole t x X));
     }
       where
-        whole : (t : Place → List ℕ) → MidOf (writesOf q) q mail (left (drop m (burstsOf q)) buf) (t (at (touched q))) (lookAt w (at (touched q)))
+        whole : (t : Place → List ℕ) → MidOf (writesOf q) q mail (left (drop m (burstsOf q)) buf) (t (at (recordOf q))) (lookAt w (at (recordOf q)))
             → (X : Place) → Writes (onRecord q mail) X → lookAt u X ≡ eff (onRecord q mail) t X
         whole t x gate y = absurd y
         whole t x (at X) y =
             subst (λ (Y : Record). lookAt u (at Y) ≡ wholeEffect q mail (t (at Y))) (sym (y .1))
             (put
-            ∙ ap (λ (l : List ℕ). after (byteOf q mail) l (burst (byteOf q mail) j (lookAt w (at (touched q))))) (sym (none-left h))
-            ∙ ap (λ (l : List ℕ). after (byteOf q mail) l (lookAt w (at (touched q)))) (sym rest)
-            ∙ subst (λ (b : Bool). MidOf b q mail (left (drop m (burstsOf q)) buf) (t (at (touched q))) (lookAt w (at (touched q)))) wr x)
+            ∙ ap (λ (l : List ℕ). after (byteOf q mail) l (burst (byteOf q mail) j (lookAt w (at (recordOf q))))) (sym (none-left h))
+            ∙ ap (λ (l : List ℕ). after (byteOf q mail) l (lookAt w (at (recordOf q)))) (sym rest)
+            ∙ subst (λ (b : Bool). MidOf b q mail (left (drop m (burstsOf q)) buf) (t (at (recordOf q))) (lookAt w (at (recordOf q)))) wr x)
             ∙ sym (choose-yes (writes? (onRecord q mail) (at X)) (wholeEffect q mail (t (at X))) (t (at X)) y)
 
     writer-step : m + 1 < totalOf q → Fine w u nothing
@@ -194,11 +194,11 @@ module _ (w : World) (z : Sized w) (fits : inUse (w .hca .logs) ≤ length (w .s
       ended = [];
       event =
           step (onRecord q mail) k (left (drop m (burstsOf q)) buf) (left (drop (m + 1) (burstsOf q)) buf) was
-          (ap (slotView k (u .room)) (next-more h) ∙ shown (Running q (m + 1))) but elsewhere
-          (λ t x. subst (λ (b : Bool). MidOf b q mail (left (drop (m + 1) (burstsOf q)) buf) (t (at (touched q))) (lookAt u (at (touched q)))) (sym wr)
+          (ap (slotView k (u .room)) (next-more h) ∙ shown (Running (m + 1) q)) but elsewhere
+          (λ t x. subst (λ (b : Bool). MidOf b q mail (left (drop (m + 1) (burstsOf q)) buf) (t (at (recordOf q))) (lookAt u (at (recordOf q)))) (sym wr)
           (ap₂ (λ (i : ℕ) (c : List ℕ). after (byteOf q mail) (drop i (burstsOf q)) c) (add-one m) put
-          ∙ ap (λ (l : List ℕ). after (byteOf q mail) l (lookAt w (at (touched q)))) (sym rest)
-          ∙ subst (λ (b : Bool). MidOf b q mail (left (drop m (burstsOf q)) buf) (t (at (touched q))) (lookAt w (at (touched q)))) wr x));
+          ∙ ap (λ (l : List ℕ). after (byteOf q mail) l (lookAt w (at (recordOf q)))) (sym rest)
+          ∙ subst (λ (b : Bool). MidOf b q mail (left (drop m (burstsOf q)) buf) (t (at (recordOf q))) (lookAt w (at (recordOf q)))) wr x));
     }
 
   -- ---- a reader
@@ -213,12 +213,12 @@ module _ (w : World) (z : Sized w) (fits : inUse (w .hca .logs) ≤ length (w .s
         ap (λ (b : Bool). pick b (w .room) (copyAt (burstAt w q m) (w .store) (k * slotRoom + offsetOf q m) (w .room))) rd
         ∙ ap₂ (λ (a f : ℕ). copyAt a (w .store) (k * slotRoom + f) (w .room)) at-is offset-is
 
-    got : roomOf k (u .room) ≡ copy j (lookAt w (at (touched q))) buf
-    unfolding buf roomOf recordOf start
+    got : roomOf k (u .room) ≡ copy j (lookAt w (at (recordOf q))) buf
+    unfolding buf roomOf bytesOf start
     got =
         ap (part (k * slotRoom) slotRoom) room-copied
-        ∙ copyAt-record (recordAt (w .hca .logs) (touched q)) (recordSize (touched q)) (k * slotRoom) slotRoom j (w .store) (w .room) record-fits in-record (omega (arith, z .roomed, k8)) in-room
-        ∙ ap (λ (c : List ℕ). copy j c (part (k * slotRoom) slotRoom (w .room))) (sym (look-valid w (touched q) valid))
+        ∙ copyAt-record (recordAt (w .hca .logs) (recordOf q)) (recordSize (recordOf q)) (k * slotRoom) slotRoom j (w .store) (w .room) record-fits in-record (omega (arith, z .roomed, k8)) in-room
+        ∙ ap (λ (c : List ℕ). copy j c (part (k * slotRoom) slotRoom (w .room))) (sym (look-valid w (recordOf q) valid))
 
     apart : (i n : ℕ) → i < 8 → ¬ (i ≡ k) → n ≤ 256 → part (i * slotRoom) n (u .room) ≡ part (i * slotRoom) n (w .room)
     apart i n h d l =
@@ -242,7 +242,7 @@ module _ (w : World) (z : Sized w) (fits : inUse (w .hca .logs) ≤ length (w .s
     same : (X : Place) → lookAt w X ≡ lookAt u X
     unfolding u moved
     same gate = refl
-    same (at X) = ap (λ (s : List ℕ). pick (isRecord (w .hca .logs) X) (recordOf (w .hca .logs) X s) []) (sym store-stays)
+    same (at X) = ap (λ (s : List ℕ). pick (isRecord (w .hca .logs) X) (bytesOf (w .hca .logs) X s) []) (sym store-stays)
 
     reader-last : totalOf q ≤ m + 1 → Fine w u nothing
     reader-last h = record {
@@ -253,9 +253,9 @@ module _ (w : World) (z : Sized w) (fits : inUse (w .hca .logs) ≤ length (w .s
           but′ (λ X _. same X)
           (λ t x. (
             sym (ap (answerOf q) (got
-                ∙ ap (λ (l : List ℕ). copies l (lookAt w (at (touched q))) (copy j (lookAt w (at (touched q))) buf)) (sym (none-left h))
-                ∙ ap (λ (l : List ℕ). copies l (lookAt w (at (touched q))) buf) (sym rest))
-                ∙ subst (λ (b : Bool). MidOf b q mail (left (drop m (burstsOf q)) buf) (t (at (touched q))) (lookAt w (at (touched q)))) rd x),
+                ∙ ap (λ (l : List ℕ). copies l (lookAt w (at (recordOf q))) (copy j (lookAt w (at (recordOf q))) buf)) (sym (none-left h))
+                ∙ ap (λ (l : List ℕ). copies l (lookAt w (at (recordOf q))) buf) (sym rest))
+                ∙ subst (λ (b : Bool). MidOf b q mail (left (drop m (burstsOf q)) buf) (t (at (recordOf q))) (lookAt w (at (recordOf q)))) rd x),
             λ X. nowhere t X,
           ));
     }
@@ -271,25 +271,25 @@ module _ (w : World) (z : Sized w) (fits : inUse (w .hca .logs) ≤ length (w .s
           step (onRecord q mail) k (left (drop m (burstsOf q)) buf) (left (drop (m + 1) (burstsOf q)) (roomOf k (u .room))) was
           (ap (slotView k (u .room)) (next-more h) ∙ ap (λ (x : List ℕ). runs (onRecord q x) (left (drop (m + 1) (burstsOf q)) (roomOf k (u .room)))) mail-same)
           but′ (λ X _. same X)
-          (λ t x. subst (λ (b : Bool). MidOf b q mail (left (drop (m + 1) (burstsOf q)) (roomOf k (u .room))) (t (at (touched q))) (lookAt u (at (touched q)))) (sym rd)
-          (ap (λ (c : List ℕ). answerOf q (copies (drop (m + 1) (burstsOf q)) c (roomOf k (u .room)))) (sym (same (at (touched q))))
-          ∙ ap₂ (λ (i : ℕ) (b : List ℕ). answerOf q (copies (drop i (burstsOf q)) (lookAt w (at (touched q))) b)) (add-one m) got
-          ∙ ap (λ (l : List ℕ). answerOf q (copies l (lookAt w (at (touched q))) buf)) (sym rest)
-          ∙ subst (λ (b : Bool). MidOf b q mail (left (drop m (burstsOf q)) buf) (t (at (touched q))) (lookAt w (at (touched q)))) rd x));
+          (λ t x. subst (λ (b : Bool). MidOf b q mail (left (drop (m + 1) (burstsOf q)) (roomOf k (u .room))) (t (at (recordOf q))) (lookAt u (at (recordOf q)))) (sym rd)
+          (ap (λ (c : List ℕ). answerOf q (copies (drop (m + 1) (burstsOf q)) c (roomOf k (u .room)))) (sym (same (at (recordOf q))))
+          ∙ ap₂ (λ (i : ℕ) (b : List ℕ). answerOf q (copies (drop i (burstsOf q)) (lookAt w (at (recordOf q))) b)) (add-one m) got
+          ∙ ap (λ (l : List ℕ). answerOf q (copies l (lookAt w (at (recordOf q))) buf)) (sym rest)
+          ∙ subst (λ (b : Bool). MidOf b q mail (left (drop m (burstsOf q)) buf) (t (at (recordOf q))) (lookAt w (at (recordOf q)))) rd x));
     }
 
   -- the records after the burst: the request's own, and every other
-  pub own-record : lookAt (moved w k q m) (at (touched q))
-      ≡ pick (writesOf q) (burst (byteOf q (frontOf k q (w .room))) (getD (burstsOf q) m 0) (lookAt w (at (touched q)))) (lookAt w (at (touched q)))
+  pub own-record : lookAt (moved w k q m) (at (recordOf q))
+      ≡ pick (writesOf q) (burst (byteOf q (frontOf k q (w .room))) (getD (burstsOf q) m 0) (lookAt w (at (recordOf q)))) (lookAt w (at (recordOf q)))
   unfolding u j mail
   own-record = go (writesOf q) refl
     where
       go : (b : Bool) → writesOf q ≡ b
-          → lookAt (moved w k q m) (at (touched q)) ≡ pick b (burst (byteOf q (frontOf k q (w .room))) (getD (burstsOf q) m 0) (lookAt w (at (touched q)))) (lookAt w (at (touched q)))
+          → lookAt (moved w k q m) (at (recordOf q)) ≡ pick b (burst (byteOf q (frontOf k q (w .room))) (getD (burstsOf q) m 0) (lookAt w (at (recordOf q)))) (lookAt w (at (recordOf q)))
       go true wr = put wr
-      go false rd = sym (same rd (at (touched q)))
+      go false rd = sym (same rd (at (recordOf q)))
 
-  pub other-record : (X : Record) → ¬ (touched q ≡ X) → lookAt (moved w k q m) (at X) ≡ lookAt w (at X)
+  pub other-record : (X : Record) → ¬ (recordOf q ≡ X) → lookAt (moved w k q m) (at X) ≡ lookAt w (at X)
   unfolding u mail
   other-record X n = go (writesOf q) refl
     where
@@ -298,7 +298,7 @@ module _ (w : World) (z : Sized w) (fits : inUse (w .hca .logs) ≤ length (w .s
       go false rd = sym (same rd (at X))
 
   -- a reader's burst, in the slot's part of the room
-  pub read-copied : writesOf q ≡ false → roomOf k (moved w k q m .room) ≡ copy (getD (burstsOf q) m 0) (lookAt w (at (touched q))) (roomOf k (w .room))
+  pub read-copied : writesOf q ≡ false → roomOf k (moved w k q m .room) ≡ copy (getD (burstsOf q) m 0) (lookAt w (at (recordOf q))) (roomOf k (w .room))
   unfolding u j buf
   read-copied rd = got rd
 
@@ -338,7 +338,7 @@ module _ (w : World) (z : Sized w) (fits : inUse (w .hca .logs) ≤ length (w .s
   -- the burst lies in the bytes in use
   pub in-use : burstAt w q m + 16 ≤ inUse (w .hca .logs)
   unfolding start
-  in-use = omega (arith, at-is, in-record, record-inside (w .hca .logs) (touched q) valid)
+  in-use = omega (arith, at-is, in-record, record-inside (w .hca .logs) (recordOf q) valid)
 
   -- bytes of the room outside the slot's part stay
   pub room-kept : (i : ℕ) → ¬ (i / slotRoom ≡ k) → getD (moved w k q m .room) i 0 ≡ getD (w .room) i 0

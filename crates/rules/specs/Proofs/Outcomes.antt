@@ -32,14 +32,14 @@ pub record Stepping (w : World) (k : ℕ) (q : Request) (m : ℕ) : Type 0 where
   pub lent : badLent w ≡ false
   pub possible : badState w ≡ false
   pub opened : w .hca .«open» ≡ true
-  pub now : statusAt k (w .row) ≡ Running q m
+  pub now : statusAt k (w .row) ≡ Running m q
 
 -- a running request is one of an open adapter
-running-open : (w : World) → badState w ≡ false → (k : ℕ) (q : Request) (m : ℕ) → statusAt k (w .row) ≡ Running q m
+running-open : (w : World) → badState w ≡ false → (k : ℕ) (q : Request) (m : ℕ) → statusAt k (w .row) ≡ Running m q
     → (b : Bool) → w .hca .«open» ≡ b → w .hca .«open» ≡ true
 running-open w p k q m e true o = o
 running-open w p k q m e false o =
-    let f : Running q m ≡ Free = sym e ∙ closed-free w p o k in
+    let f : Running m q ≡ Free = sym e ∙ closed-free w p o k in
     let z : _≡_ {A = ℕ} 0 1 = cc in absurd (omega arith)
 
 module _ (w : World) (k : ℕ) (P : Stepped → Type 0) (refusals : (c : Refusal) → P (stepRefused w c))
@@ -47,9 +47,9 @@ module _ (w : World) (k : ℕ) (P : Stepped → Type 0) (refusals : (c : Refusal
   on-is : badLent w ≡ false → badState w ≡ false → (s : Status) → statusAt k (w .row) ≡ s → P (stepOn w k s)
   unfolding stepOn
   on-is l p Free e = refusals cause.NoRequest
-  on-is l p (Running q m) e =
+  on-is l p (Running m q) e =
       moves q m (record { lent = l; possible = p; opened = running-open w p k q m e (w .hca .«open») refl; now = e })
-  on-is l p (Finished q m) e = refusals cause.NoRequest
+  on-is l p (Finished m q) e = refusals cause.NoRequest
 
   pub step-is : P (stepOf w k)
   unfolding stepOf
@@ -67,7 +67,7 @@ freedAt w k = world (w .hca) (set (w .row) k (freed (getD (w .row) k (slot Free)
 pub record Collecting (w : World) (k : ℕ) (out : List ℕ) (q : Request) : Type 0 where
   pub lent : badLent w ≡ false
   pub moves : ℕ
-  pub now : statusAt k (w .row) ≡ Finished q moves
+  pub now : statusAt k (w .row) ≡ Finished moves q
   pub enough : ltb (length out) (answerSize q) ≡ false
 
 module _ (w : World) (k : ℕ) (out : List ℕ) (P : Collected → Type 0) (refusals : (c : Refusal) → P (collectRefused w out c))
@@ -75,8 +75,8 @@ module _ (w : World) (k : ℕ) (out : List ℕ) (P : Collected → Type 0) (refu
   from-is : badLent w ≡ false → (s : Status) → statusAt k (w .row) ≡ s → P (collectOn w k out s)
   unfolding collectOn collectFinished
   from-is l Free e = refusals cause.NoRequest
-  from-is l (Running q m) e = refusals cause.StillRunning
-  from-is l (Finished q m) e =
+  from-is l (Running m q) e = refusals cause.StillRunning
+  from-is l (Finished m q) e =
       by-pick P (ltb (length out) (answerSize q)) _ _ (λ _. refusals cause.ShortBuffer)
       (λ n. collects q (record { lent = l; moves = m; now = e; enough = n }))
 

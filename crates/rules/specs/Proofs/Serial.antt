@@ -10,7 +10,7 @@ use lib.Dec.{eqb}
 use Rattle.words.specs.Tests.{is-true}
 use Rattle.words.specs.Choice.{pick, by-pick}
 use Rattle.context.specs.declared.Record.{Record}
-use Rattle.tables.specs.Records.{writesOf}
+use Rattle.request_table.specs.Records.{writesOf}
 use Rattle.slots.specs.declared.Status.{Status}
 use Rattle.slots.specs.declared.Status.the-variants.{Free, Running, Finished}
 use Rattle.serial.specs.Core.{Inv, Quiet}
@@ -22,8 +22,8 @@ use Rattle.serial.specs.Plain.{given as givenPlain, Demand, demand}
 use Rattle.rules.specs.World.{World, statusAt}
 use Rattle.rules.specs.Commands.{submitCommand}
 use Rattle.rules.specs.Collections.{answerAt}
-use Rattle.rules.specs.Book.{Book, Fed, onRecord, closeHca, nop, numberOf, replyOf, afterOf}
-use Rattle.rules.specs.Calls.{Call, Note, nothing, refused, accepted, finished, emptied, answerOf, worldAfter, noteOf, stops}
+use Rattle.rules.specs.Book.{Book, Fed, onRecord, closeHca, nop, bookNumber, replyOf, afterOf}
+use Rattle.rules.specs.Calls.{Call, Note, nothing, refused, accepted, finished, emptied, answerTo, worldAfter, noteOf, stops}
 use Rattle.rules.specs.Demand3.{Entry, turnedAway, answered, inSlot, collectedFrom, noted, Run, runFrom, Done, done, inSlotDone, finishedIn, Writing, NotWriting, Unwritten, given, bookOf, Demand3, Statement}
 use Rattle.rules.specs.Proofs.System.{Place, gate, at, gateBytes, Writes, system}
 use Rattle.rules.specs.Proofs.Shown.{shows, plain}
@@ -71,8 +71,8 @@ run-keeps : (s : Place → List ℕ) (w : World) (J : List Entry) (cs : List Cal
 run-keeps s w J [] i = i
 run-keeps s w J (c ∷ cs) i =
     by-pick (λ (r : Run). Keeps system s (viewOf (r .world)) (items (r .journal))) (stops w c) _ _ (λ _. i)
-    (λ a. run-keeps s (worldAfter w c) (noted (noteOf (w .hca .logs) c (answerOf w c)) J) cs
-    (subst (λ (l : List (Item system)). Keeps system s (viewOf (worldAfter w c)) l) (sym (items-noted (noteOf (w .hca .logs) c (answerOf w c)) J))
+    (λ a. run-keeps s (worldAfter w c) (noted (noteOf (w .hca .logs) c (answerTo w c)) J) cs
+    (subst (λ (l : List (Item system)). Keeps system s (viewOf (worldAfter w c)) l) (sym (items-noted (noteOf (w .hca .logs) c (answerTo w c)) J))
     (next system s (viewOf w) (viewOf (worldAfter w c)) (items J) i (call-ok w c a .event))))
 
 -- ---- what is said of a run, in the terms of `serial`
@@ -98,8 +98,8 @@ fins-same w (inSlot f k ∷ J) = go (statusAt k (w .row)) (fins-same w J)
     go : (s : Status) → fins (finishedIn w J) ≡ finishedJ system (stands system (slotAt w) (items J))
         → fins (inSlotDone w f k s (finishedIn w J)) ≡ finishedJ system (entry system f (slotView k (w .room) s) ∷ stands system (slotAt w) (items J))
     go Free e = e
-    go (Running q m) e = e
-    go (Finished q m) e = ap (λ (l : List (Fin system)). fin (done f (answerAt w k q)) ∷ l) e
+    go (Running m q) e = e
+    go (Finished m q) e = ap (λ (l : List (Fin system)). fin (done f (answerAt w k q)) ∷ l) e
 
 writing : (f : Fed) (X : Record) → ¬ Writing f X → ¬ Writes f (at X)
 writing (onRecord q mail) X n x = n (is-true (writesOf q) (x .0), sym (x .1))
@@ -115,8 +115,8 @@ quiet-same w X (inSlot f k ∷ J) u = go (statusAt k (w .row)) (u .0) (quiet-sam
     go : (s : Status) → NotWriting f X s → Quiet system (at X) (stands system (slotAt w) (items J))
         → Quiet system (at X) (entry system f (slotView k (w .room) s) ∷ stands system (slotAt w) (items J))
     go Free x ih = (writing f X x, ih)
-    go (Running q m) x ih = (writing f X x, ih)
-    go (Finished q m) x ih = ih
+    go (Running m q) x ih = (writing f X x, ih)
+    go (Finished m q) x ih = ih
 
 given-same : (b : Book) (l : List Done) → givenPlain system plain b (fins l) ≡ given b l
 given-same b [] = refl
@@ -125,13 +125,13 @@ given-same b (d ∷ l) = given-same (afterOf (d .what) b) l
 literal : (b : Book) (s : Place → List ℕ) (w : World) (J : List Entry) → ((X : Place) → shows b X ≡ s X)
     → Inv system s (lookAt w) (stands system (slotAt w) (items J)) → Demand3 b w J
 literal b s w J m i = record {
-  accepts = λ A B d e. ap (numberOf (d .what)) (sym (given-same b A)) ∙ d3 .accepts (fins A) (fins B) (fin d) (split A B d e);
+  accepts = λ A B d e. ap (bookNumber (d .what)) (sym (given-same b A)) ∙ d3 .accepts (fins A) (fins B) (fin d) (split A B d e);
   records = λ X v u. sym (look-valid w X v) ∙ d3 .records (at X) (quiet-same w X J u)
       ∙ ap (λ (l : List (Fin system)). givenPlain system plain b l .bytes X) (sym (fins-same w J))
       ∙ ap (λ (c : Book). c .bytes X) (given-same b (finishedIn w J));
   answers = λ A B d e. ap (replyOf (d .what)) (sym (given-same b A)) ∙ d3 .answers (fins A) (fins B) (fin d) (split A B d e);
-  refusals = λ A B f n e. ap (numberOf f) (sym (given-same b (finishedIn w A)))
-      ∙ ap (λ (l : List (Fin system)). numberOf f (givenPlain system plain b l)) (fins-same w A)
+  refusals = λ A B f n e. ap (bookNumber f) (sym (given-same b (finishedIn w A)))
+      ∙ ap (λ (l : List (Fin system)). bookNumber f (givenPlain system plain b l)) (fins-same w A)
       ∙ d3 .refusals (stands system (slotAt w) (items A)) (stands system (slotAt w) (items B)) f n
       (ap (λ (l : List Entry). stands system (slotAt w) (items l)) e
       ∙ ap (stands system (slotAt w)) (items-append A (turnedAway f n ∷ B)) ∙ stands-append system (slotAt w) (items A) (off f n ∷ items B)) tt;

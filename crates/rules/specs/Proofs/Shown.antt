@@ -8,12 +8,12 @@ use Rattle.words.specs.Choice.{pick}
 use Rattle.context.specs.Layout.{sameRecord}
 use Rattle.context.specs.Records.{same-record, record-same}
 use Rattle.edges.specs.Edges.{verdictNumber}
-use Rattle.tables.specs.Records.{recordOf, writesOf}
-use Rattle.effects.specs.Permission.{permissionOf}
+use Rattle.request_table.specs.Records.{recordOf, writesOf}
+use Rattle.checks.specs.Permission.{permissionOf}
 use Rattle.answers.specs.Answers.{answerOf}
 use Rattle.serial.specs.Plain.{Plain}
 use Rattle.rules.specs.Whole.{wholeEffect}
-use Rattle.rules.specs.Book.{Book, Fed, onRecord, closeHca, nop, withRecord, gated, numberOf, replyOf, afterRecord, effectOf, byNumber, afterOf}
+use Rattle.rules.specs.Book.{Book, Fed, onRecord, closeHca, nop, withRecord, gated, bookNumber, replyOf, afterRecord, effectOf, byNumber, afterOf}
 use Rattle.rules.specs.Proofs.System.{Place, gate, at, choose-yes, gateBytes, gatedBy, Writes, writes?, num, ans, eff, eff-frame, system}
 
 abbrev pub shows : Book → Place → List ℕ
@@ -25,7 +25,7 @@ unfolding gated
 same-gate true g n m e f = f ∙ ap (λ x. gatedBy x m) e
 same-gate false g n m e f = ap (λ x. gatedBy x m) e
 
-pub numbers : (f : Fed) (b : Book) (s : Place → List ℕ) → ((X : Place) → shows b X ≡ s X) → numberOf f b ≡ num f s
+pub numbers : (f : Fed) (b : Book) (s : Place → List ℕ) → ((X : Place) → shows b X ≡ s X) → bookNumber f b ≡ num f s
 numbers (onRecord q mail) b s m =
     same-gate (b .opened) (s gate) _ _ (m gate) (ap (λ c. verdictNumber (permissionOf q c)) (m (at (recordOf q))))
 numbers closeHca b s m = same-gate (b .opened) (s gate) 0 0 (m gate) refl
@@ -70,14 +70,14 @@ kept n b c e = rw e
 
 pub taken : (f : Fed) (b : Book) (s : Place → List ℕ) → ((X : Place) → shows b X ≡ s X) → num f s ≡ 0 → (X : Place) → shows (afterOf f b) X ≡ eff f s X
 unfolding afterOf
-taken f b s m e X = ap (λ c. shows c X) (kept (numberOf f b) b (effectOf f b) (numbers f b s m ∙ e)) ∙ effects f b s m X
+taken f b s m e X = ap (λ c. shows c X) (kept (bookNumber f b) b (effectOf f b) (numbers f b s m ∙ e)) ∙ effects f b s m X
 
 abbrev pub plain : Plain system
 plain = record {
   Book = Book;
   Ask = Fed;
   asks = λ f. f;
-  number = numberOf;
+  number = bookNumber;
   reply = replyOf;
   after = afterOf;
   shows = shows;

@@ -8,7 +8,7 @@ use lib.ListN.{length, drop, replicate, length-append, length-replicate, getD-re
 use lib.Seq.{ext-getD}
 use Rattle.words.specs.Choice.{pick}
 use Rattle.words.specs.Parts.{part, splice, length-part, getD-part}
-use Rattle.context.specs.Layout.{inUse, isRecord, recordAt, recordSize, recordOf}
+use Rattle.context.specs.Layout.{inUse, isRecord, recordAt, recordSize, bytesOf}
 use Rattle.context.specs.Records.{record-inside}
 use Rattle.context.specs.declared.Logs.{Logs}
 use Rattle.context.specs.declared.Record.{Record}
@@ -25,7 +25,7 @@ use Rattle.rules.specs.Proofs.Submissions.{command-cases}
 pub record Started (w : World) : Type 0 where
   pub opened : w .hca .«open» ≡ true
   pub freed : (k : ℕ) → statusAt k (w .row) ≡ Free
-  pub zeroed : (X : Record) → isRecord (w .hca .logs) X ≡ true → recordOf (w .hca .logs) X (w .store) ≡ replicate (recordSize X) 0
+  pub zeroed : (X : Record) → isRecord (w .hca .logs) X ≡ true → bytesOf (w .hca .logs) X (w .store) ≡ replicate (recordSize X) 0
 
 -- a part of the zeroes that a list begins with
 zero-part : (b n m : ℕ) (l : List ℕ) → b + n ≤ m → part b n (splice 0 (replicate m 0) l) ≡ replicate n 0
@@ -48,8 +48,8 @@ zero-part b n m l h =
     same : length (part b n (zeroes ++ rest)) ≡ n
     same = length-part b n (zeroes ++ rest) (omega (arith, length-append zeroes rest, long))
 
-record-zero : (g : Logs) (store : List ℕ) (X : Record) → isRecord g X ≡ true → recordOf g X (splice 0 (replicate (inUse g) 0) store) ≡ replicate (recordSize X) 0
-unfolding recordOf
+record-zero : (g : Logs) (store : List ℕ) (X : Record) → isRecord g X ≡ true → bytesOf g X (splice 0 (replicate (inUse g) 0) store) ≡ replicate (recordSize X) 0
+unfolding bytesOf
 record-zero g store X v = zero-part (recordAt g X) (recordSize X) (inUse g) store (record-inside g X v)
 
 no-done : (b : Bool) {A : Type 0} → pick b false false ≡ true → A
@@ -66,7 +66,7 @@ started w bytes mail =
 -- the book of an initialisation
 pub begins-zero : Zeroed
 begins-zero before bytes mail i X v =
-    ap (λ (b : Bool). pick b (recordOf (start .hca .logs) X (start .store)) []) v ∙ started before bytes mail i .zeroed X v
+    ap (λ (b : Bool). pick b (bytesOf (start .hca .logs) X (start .store)) []) v ∙ started before bytes mail i .zeroed X v
   where
     start : World
     start = submitCommand before bytes mail .world

@@ -15,36 +15,36 @@ use Rattle.hcr.specs.declared.ReadAnswer.{ReadAnswer}
 use Rattle.hcr.specs.declared.ReadAnswer.the-variants as hcr
 use Rattle.context.specs.Layout.{isRecord}
 use Rattle.context.specs.Init.{initOf}
-use Rattle.context.specs.declared.Init.{Init}
-use Rattle.context.specs.declared.Init.the-variants as init
+use Rattle.context.specs.declared.InitFound.{InitFound}
+use Rattle.context.specs.declared.InitFound.the-variants as init
 use Rattle.context.specs.declared.Logs.{Logs}
 use Rattle.edges.specs.declared.Verdict.{Verdict}
 use Rattle.edges.specs.declared.Verdict.the-variants.{Permitted, NotPermitted}
 use Rattle.requests.specs.declared.Command.{Command}
-use Rattle.requests.specs.declared.Engine.{Engine}
+use Rattle.requests.specs.declared.EngineRequest.{EngineRequest}
 use Rattle.requests.specs.declared.Request.{Request}
 use Rattle.requests.specs.declared.Request.the-variants as request
-use Rattle.commands.specs.Commands.{opOf, commandOf}
+use Rattle.commands.specs.Commands.{readOp, readCommand}
 use Rattle.commands.specs.declared.CommandFound.{CommandFound}
 use Rattle.commands.specs.declared.CommandFound.the-variants as found
 use Rattle.commands.specs.declared.Op.{Op}
 use Rattle.commands.specs.declared.OpFound.{OpFound}
 use Rattle.commands.specs.declared.OpFound.the-variants as opFound
-use Rattle.engines.specs.Engines.{numberOf, engineOf}
+use Rattle.engines.specs.Engines.{readNumber, readEngine}
 use Rattle.engines.specs.declared.EngineFound.{EngineFound}
 use Rattle.engines.specs.declared.EngineFound.the-variants as engine
 use Rattle.engines.specs.declared.EngineNumber.{EngineNumber}
 use Rattle.engines.specs.declared.NumberFound.{NumberFound}
 use Rattle.engines.specs.declared.NumberFound.the-variants as number
-use Rattle.tables.specs.Records.{recordOf as touched}
-use Rattle.tables.specs.Mailboxes.{needOf}
-use Rattle.effects.specs.Permission.{permissionOf}
-use Rattle.effects.specs.Content.{contentHolds}
+use Rattle.request_table.specs.Records.{recordOf}
+use Rattle.request_table.specs.Mailboxes.{needOf}
+use Rattle.checks.specs.Permission.{permissionOf}
+use Rattle.checks.specs.Content.{contentHolds}
 use Rattle.slots.specs.Slots.{isOccupied, hasCommand}
 use Rattle.rows.specs.Rows.{anySlot, lowestFree}
 use Rattle.rows.specs.Holds.{heldAgainst}
-use Rattle.rows.specs.declared.Found.{Found}
-use Rattle.rows.specs.declared.Found.the-variants.{At, Nothing}
+use Rattle.rows.specs.declared.SlotFound.{SlotFound}
+use Rattle.rows.specs.declared.SlotFound.the-variants.{At, Nothing}
 use Rattle.rules.specs.declared.Refusal.{Refusal}
 use Rattle.rules.specs.declared.Refusal.the-variants as cause
 use Rattle.rules.specs.declared.SubmitAnswer.the-variants as submit
@@ -74,7 +74,7 @@ module _ (w : World) (lent : badLent w ≡ false) (q : Request) (mail : List ℕ
       (λ n. by-pick P (not (contentHolds q mail)) _ _ (λ _. refusals cause.BadContent)
       (λ _. by-pick P (heldAgainst (w .row) q) _ _ (λ _. refusals cause.Held) (λ _. judged-is n (permissionOf q (recordNow w q)) refl)))
     where
-      placed-is : ltb (length mail) (needOf q) ≡ false → permissionOf q (recordNow w q) ≡ Permitted → (f : Found) → lowestFree 0 (w .row) ≡ f → P (placed w q mail f)
+      placed-is : ltb (length mail) (needOf q) ≡ false → permissionOf q (recordNow w q) ≡ Permitted → (f : SlotFound) → lowestFree 0 (w .row) ≡ f → P (placed w q mail f)
       placed-is n e (At k) f = takes k (record { lent = lent; enough = n; permitted = e; lowest = f })
       placed-is n e Nothing f = refusals cause.Full
 
@@ -93,14 +93,14 @@ pub record Passing (w : World) : Type 0 where
 pub record Asking (w : World) (q : Request) : Type 0 where
   pub passing : Passing w
   pub opened : w .hca .«open» ≡ true
-  pub valid : isRecord (w .hca .logs) (touched q) ≡ true
+  pub valid : isRecord (w .hca .logs) (recordOf q) ≡ true
 
 module _ (w : World) (P : EngineFound → Submitted → Type 0) (plain : (f : EngineFound) (c : Refusal) → forState c ≡ false → P f (refused w c))
-    (admits : (e : Engine) → Asking w (request.Engine e) → P (engine.Asked e) (admit w (request.Engine e) [])) where
+    (admits : (e : EngineRequest) → Asking w (request.Engine e) → P (engine.OnRecord e) (admit w (request.Engine e) [])) where
   engine-asked : Passing w → (k : EngineNumber) (index psn code : ℕ) → w .hca .«open» ≡ true
-      → (f : EngineFound) → engineOf (w .hca .logs) k index psn code ≡ f → P f (engineAsked w f)
+      → (f : EngineFound) → readEngine (w .hca .logs) k index psn code ≡ f → P f (engineAsked w f)
   unfolding engineAsked
-  engine-asked p k index psn code o (engine.Asked e) h =
+  engine-asked p k index psn code o (engine.OnRecord e) h =
       admits e (record { passing = p; opened = o; valid = engine-valid (w .hca .logs) k index psn code e h })
   engine-asked p k index psn code o engine.Wrong h = plain engine.Wrong cause.BadParameter refl
 
@@ -108,7 +108,7 @@ module _ (w : World) (P : EngineFound → Submitted → Type 0) (plain : (f : En
   unfolding engineServed
   engine-served p index psn code number.NotServed = plain engine.Wrong cause.NotServed refl
   engine-served p index psn code (number.Served k) =
-      let f : EngineFound = engineOf (w .hca .logs) k index psn code in
+      let f : EngineFound = readEngine (w .hca .logs) k index psn code in
       by-pick (P f) (not (w .hca .«open»)) _ _ (λ _. plain f cause.BadSystemState refl)
       (λ o. engine-asked p k index psn code (not-false (w .hca .«open») o) f refl)
 
@@ -118,21 +118,21 @@ module _ (w : World) (P : EngineFound → Submitted → Type 0) (plain : (f : En
       let f : EngineFound = engineFound (w .hca .logs) n index psn code in
       by-pick (P f) (badLent w) _ _ (λ _. plain f cause.BadLength refl)
       (λ l. by-pick (P f) (badState w) _ _ (λ _. plain f cause.Impossible refl)
-      (λ s. engine-served (record { lent = l; possible = s }) index psn code (numberOf n)))
+      (λ s. engine-served (record { lent = l; possible = s }) index psn code (readNumber n)))
 
 module _ (w : World) (mail : List ℕ) (P : CommandFound → Submitted → Type 0) (plain : (f : CommandFound) (c : Refusal) → forState c ≡ false → P f (refused w c))
     (admits : (c : Command) → Asking w (request.Command c) → P (found.OnRecord c) (admit w (request.Command c) mail))
     (closes : w .hca .«open» ≡ true → anySlot isOccupied (w .row) ≡ false → P found.CloseHca (accepted submit.Done (closed w)))
     (nops : P found.Nop (accepted submit.Done w))
     (inits : (g : Logs) → badState w ≡ false → w .hca .«open» ≡ false → initOf mail (length (w .store)) ≡ init.Layout g → P found.InitHca (initialised w (init.Layout g))) where
-  command-initialised : badState w ≡ false → w .hca .«open» ≡ false → (i : Init) → initOf mail (length (w .store)) ≡ i → P found.InitHca (initialised w i)
+  command-initialised : badState w ≡ false → w .hca .«open» ≡ false → (i : InitFound) → initOf mail (length (w .store)) ≡ i → P found.InitHca (initialised w i)
   unfolding initialised
   command-initialised s o (init.Layout g) e = inits g s o e
   command-initialised s o init.ShortMailbox e = plain found.InitHca cause.ShortMailbox refl
   command-initialised s o init.OutOfRange e = plain found.InitHca cause.BadContent refl
 
   module _ (p : Passing w) (o : Op) (modifier n : ℕ) (system : badSystem (w .hca .«open») o ≡ false) (idle : busy (w .row) o ≡ false) where
-    command-asked : (f : CommandFound) → commandOf (w .hca .logs) o modifier n ≡ f → P f (asked w mail f)
+    command-asked : (f : CommandFound) → readCommand (w .hca .logs) o modifier n ≡ f → P f (asked w mail f)
     unfolding asked busy
     command-asked found.InitHca e =
         command-initialised (p .possible) (init-closed (w .hca .logs) o modifier n (w .hca .«open») e system) (initOf mail (length (w .store))) refl
@@ -152,7 +152,7 @@ module _ (w : World) (mail : List ℕ) (P : CommandFound → Submitted → Type 
   unfolding served
   command-served p c opFound.NotServed = plain found.Wrong cause.NotServed refl
   command-served p c (opFound.Served o) =
-      let f : CommandFound = commandOf (w .hca .logs) o (c .«op_modifier») (c .«in_modifier») in
+      let f : CommandFound = readCommand (w .hca .logs) o (c .«op_modifier») (c .«in_modifier») in
       by-pick (P f) (badSystem (w .hca .«open») o) _ _ (λ _. plain f cause.BadSystemState refl)
       (λ a. by-pick (P f) (busy (w .row) o) _ _ (λ _. plain f cause.Busy refl)
       (λ b. command-asked p o (c .«op_modifier») (c .«in_modifier») a b f refl))
@@ -162,8 +162,8 @@ module _ (w : World) (mail : List ℕ) (P : CommandFound → Submitted → Type 
   command-register p hcr.Short = plain found.Wrong cause.BadLength refl
   command-register p hcr.Malformed = plain found.Wrong cause.Malformed refl
   command-register p (hcr.Command c) =
-      let f : CommandFound = opAsked (w .hca .logs) c (opOf (c .op)) in
-      by-pick (P f) (c .event) _ _ (λ _. plain f cause.Malformed refl) (λ _. command-served p c (opOf (c .op)))
+      let f : CommandFound = opAsked (w .hca .logs) c (readOp (c .op)) in
+      by-pick (P f) (c .event) _ _ (λ _. plain f cause.Malformed refl) (λ _. command-served p c (readOp (c .op)))
 
   pub command-cases : (bytes : List ℕ) → P (commandFound (w .hca .logs) bytes) (submitCommand w bytes mail)
   unfolding submitCommand

@@ -9,8 +9,8 @@ use Rattle.context.specs.declared.Record.{Record}
 use Rattle.context.specs.Records.{record?}
 use Rattle.edges.specs.Edges.{verdictNumber}
 use Rattle.requests.specs.declared.Request.{Request}
-use Rattle.tables.specs.Records.{recordOf, writesOf}
-use Rattle.effects.specs.Permission.{permissionOf}
+use Rattle.request_table.specs.Records.{recordOf, writesOf}
+use Rattle.checks.specs.Permission.{permissionOf}
 use Rattle.answers.specs.Answers.{answerOf}
 use Rattle.byte_rule.specs.Bytes.{byteOf}
 use Rattle.bursts.specs.Bursts.{after}

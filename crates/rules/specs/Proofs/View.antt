@@ -11,17 +11,17 @@ use lib.ListN.{length, getD, drop, set, List·getD-eq-default}
 use lib.Seq.{getD-set-other}
 use Rattle.words.specs.Choice.{pick, both-right}
 use Rattle.words.specs.Parts.{length-part}
-use Rattle.context.specs.Layout.{isRecord, recordOf, recordAt, recordSize, inUse, rangesHold, fitsStore}
+use Rattle.context.specs.Layout.{isRecord, bytesOf, recordAt, recordSize, inUse, rangesHold, fitsStore}
 use Rattle.context.specs.Records.{record-inside}
 use Rattle.context.specs.declared.Record.{Record}
 use Rattle.requests.specs.declared.Request.{Request}
-use Rattle.tables.specs.Records.{recordOf as touched}
+use Rattle.request_table.specs.Records.{recordOf}
 use Rattle.burst_table.specs.Bursts.{burstsOf, totalOf}
 use Rattle.answers.specs.Answers.{answerOf}
 use Rattle.slots.specs.Slots.{slot}
 use Rattle.words.specs.Tests.{neither-left, neither-right}
-use Rattle.states.specs.Laws.{closed-free as all-free, open-fits as fits, running-right, running-moved}
-use Rattle.states.specs.declared.Hca.{Hca}
+use Rattle.possible.specs.Laws.{closed-free as all-free, open-fits as fits, running-right, running-moved}
+use Rattle.possible.specs.declared.Hca.{Hca}
 use Rattle.slots.specs.declared.Slot.{Slot}
 use Rattle.slots.specs.declared.Status.{Status}
 use Rattle.slots.specs.declared.Status.the-variants.{Free, Running, Finished}
@@ -33,12 +33,12 @@ use Rattle.rules.specs.Proofs.System.{Place, gate, at, gateBytes, left, 
 
 abbrev pub lookAt : World → Place → List ℕ
 lookAt w gate = gateBytes (w .hca .«open»)
-lookAt w (at X) = pick (isRecord (w .hca .logs) X) (recordOf (w .hca .logs) X (w .store)) []
+lookAt w (at X) = pick (isRecord (w .hca .logs) X) (bytesOf (w .hca .logs) X (w .store)) []
 
 abbrev pub slotView : ℕ → List ℕ → Status → Shown system
 slotView k room Free = free
-slotView k room (Running q m) = runs (onRecord q (frontOf k q room)) (left (drop m (burstsOf q)) (roomOf k room))
-slotView k room (Finished q m) = ended (onRecord q (frontOf k q room)) (answerOf q (roomOf k room))
+slotView k room (Running m q) = runs (onRecord q (frontOf k q room)) (left (drop m (burstsOf q)) (roomOf k room))
+slotView k room (Finished m q) = ended (onRecord q (frontOf k q room)) (answerOf q (roomOf k room))
 
 abbrev pub slotAt : World → ℕ → Shown system
 slotAt w k = slotView k (w .room) (statusAt k (w .row))
@@ -90,24 +90,24 @@ open-fits w l e o =
 
 -- a running slot's record is a record of the store, and bursts are left
 pub record Runs (w : World) (q : Request) (m : ℕ) : Type 0 where
-  pub valid : isRecord (w .hca .logs) (touched q) ≡ true
+  pub valid : isRecord (w .hca .logs) (recordOf q) ≡ true
   pub more : m < totalOf q
 
-pub running : (w : World) → badState w ≡ false → w .hca .«open» ≡ true → (k : ℕ) (q : Request) (m : ℕ) → statusAt k (w .row) ≡ Running q m → Runs w q m
+pub running : (w : World) → badState w ≡ false → w .hca .«open» ≡ true → (k : ℕ) (q : Request) (m : ℕ) → statusAt k (w .row) ≡ Running m q → Runs w q m
 unfolding badState statusAt
 running w e o k q m f = record { valid = running-right (w .hca) (w .row) o e k q m f .valid; more = running-moved (w .hca) (w .row) o e k q m f }
 
 -- ---- what is looked at
 
-pub look-valid : (w : World) (X : Record) → isRecord (w .hca .logs) X ≡ true → lookAt w (at X) ≡ recordOf (w .hca .logs) X (w .store)
-look-valid w X e = ap (λ (b : Bool). pick b (recordOf (w .hca .logs) X (w .store)) []) e
+pub look-valid : (w : World) (X : Record) → isRecord (w .hca .logs) X ≡ true → lookAt w (at X) ≡ bytesOf (w .hca .logs) X (w .store)
+look-valid w X e = ap (λ (b : Bool). pick b (bytesOf (w .hca .logs) X (w .store)) []) e
 
 pub look-same : (w u : World) → u .hca ≡ w .hca → u .store ≡ w .store → (X : Place) → lookAt u X ≡ lookAt w X
 look-same w u e f gate = ap (λ (h : Hca). gateBytes (h .«open»)) e
-look-same w u e f (at X) = ap₂ (λ (h : Hca) (s : List ℕ). pick (isRecord (h .logs) X) (recordOf (h .logs) X s) []) e f
+look-same w u e f (at X) = ap₂ (λ (h : Hca) (s : List ℕ). pick (isRecord (h .logs) X) (bytesOf (h .logs) X s) []) e f
 
 pub length-look : (w : World) → inUse (w .hca .logs) ≤ length (w .store) → (X : Record) → isRecord (w .hca .logs) X ≡ true → length (lookAt w (at X)) ≡ recordSize X
-unfolding recordOf
+unfolding bytesOf
 length-look w h X e =
     ap length (look-valid w X e) ∙ length-part (recordAt (w .hca .logs) X) (recordSize X) (w .store) (omega (arith, record-inside (w .hca .logs) X e))
 
@@ -128,8 +128,8 @@ others w u k s z e r f j n = go (decLt j 8)
 
     views : j < 8 → (t : Status) → slotView j (u .room) t ≡ slotView j (w .room) t
     views h Free = refl
-    views h (Running q m) = ap₂ (λ (x y : List ℕ). runs (onRecord q x) (left (drop m (burstsOf q)) y)) (f j q h n) (r j h n)
-    views h (Finished q m) = ap₂ (λ (x y : List ℕ). ended (onRecord q x) (answerOf q y)) (f j q h n) (r j h n)
+    views h (Running m q) = ap₂ (λ (x y : List ℕ). runs (onRecord q x) (left (drop m (burstsOf q)) y)) (f j q h n) (r j h n)
+    views h (Finished m q) = ap₂ (λ (x y : List ℕ). ended (onRecord q x) (answerOf q y)) (f j q h n) (r j h n)
 
     go : Dec (j < 8) → slotAt u j ≡ slotAt w j
     go (yes h) = ap (slotView j (u .room)) same ∙ views h (statusAt j (w .row))
