@@ -1,8 +1,22 @@
 """Fails where the documents and the tree disagree: a crate that crates.txt, README.md or docs/CLAIMS.md
-leaves out, or a name that docs/CLAIMS.md gives and the crate it gives it for does not have."""
+leaves out, or a name that a document gives and the file it gives it for does not have in public.
+
+It is given as `crate/File: name, name`: File is `src` for the crate's src/*.rt, or else a module of its
+specs (`rules/Laws/Decided` is crates/rules/specs/Laws/Decided.antt)."""
+import glob
 import os
 import re
 import sys
+
+# `pub fn f`, `pub struct S`, `pub enum E`, `pub const C`, and the head of a type's methods.
+CODE = re.compile(r"\s*pub\s+(?:extern\s+\"C\"\s+)?(?:fn|struct|enum|const)\s+([A-Za-z_]\w*)")
+METHODS = re.compile(r"impl\s+([A-Za-z_]\w*)")
+# The signature of a public definition or theorem, and the head of a public type.
+SIGNED = re.compile(r"^\s*(?:abbrev\s+|unfoldable\s+)?pub\s+(?:(record|data)\s+)?([^\s:(){}«»]+)(?=\s)([^\n]*)")
+# A case of a public `data`.
+CASE = re.compile(r"^\s*([^\s:(){}«»]+)\s+:")
+# What a document names: `crate/File: name, name`, on one line or two.
+CLAIM = re.compile(r"`([^`\s:]+): ([^`]+)`")
 
 
 def listed():
@@ -14,13 +28,55 @@ def listed():
     return names
 
 
-def text_of(crate):
-    parts = []
-    for base, _, files in os.walk(f"crates/{crate}"):
-        for name in files:
-            if name.endswith((".rt", ".antt")):
-                parts.append(open(os.path.join(base, name), encoding="utf8").read())
-    return "\n".join(parts)
+def text_of(path):
+    return open(path, encoding="utf8").read()
+
+
+def code_names(path):
+    """The public items of a source file; a method is `Type::name`."""
+    names, owner = set(), ""
+    for line in text_of(path).splitlines():
+        methods, item = METHODS.match(line), CODE.match(line)
+        if methods:
+            owner = methods.group(1) + "::"
+        elif line.startswith("}"):
+            owner = ""
+        elif item:
+            names.add(owner + item.group(1))
+    return names
+
+
+def spec_names(path):
+    """The public names of a module: definitions, theorems, types, their public fields and cases."""
+    names, cases_from = set(), None
+    for line in text_of(path).splitlines():
+        if not line.strip() or line.lstrip().startswith("--"):
+            continue
+        indent = len(line) - len(line.lstrip())
+        if cases_from is not None and indent <= cases_from:
+            cases_from = None
+        signed = SIGNED.match(line)
+        if signed:
+            kind, name, rest = signed.groups()
+            if kind or re.match(r"\s*(?:\{[^}]*\}\s*)?:", rest):
+                names.add(name)
+            if kind == "data":
+                cases_from = indent
+        elif cases_from is not None:
+            case = CASE.match(line)
+            if case:
+                names.add(case.group(1))
+    return names
+
+
+def public(where):
+    """The public names at `crate/File`, or None where there is no such file."""
+    crate, _, module = where.partition("/")
+    if module == "src":
+        paths = sorted(glob.glob(f"crates/{crate}/src/*.rt"))
+        return set().union(*map(code_names, paths)) if paths else None
+    path = f"crates/{crate}/specs/{module}.antt"
+    return spec_names(path) if os.path.exists(path) else None
 
 
 def main():
@@ -28,25 +84,22 @@ def main():
     crates = listed()
     there = sorted(os.listdir("crates"))
     wrong += [f"crates/{c} is not listed in crates.txt" for c in there if c not in crates]
-    readme = open("README.md", encoding="utf8").read()
+    readme = text_of("README.md")
     wrong += [f"README.md does not name the crate {c}" for c in crates if f"`{c}`" not in readme]
-    claims = open("docs/CLAIMS.md", encoding="utf8").read()
-    texts = {c: text_of(c) for c in crates}
-    # A claim names what states it as `crate: name, name`; a test, as the program `crate`.
-    stated = re.findall(r"`(\w+): ([^`]+)`", claims)
-    named = [crate for crate, _ in stated] + re.findall(r"the program `(\w+)`", claims)
+    texts = {doc: re.sub(r"\s+", " ", text_of(doc)) for doc in ("README.md", "docs/CLAIMS.md", "docs/DECISIONS.md")}
+    claims = texts["docs/CLAIMS.md"]
+    named = [where.split("/")[0] for where, _ in CLAIM.findall(claims)] + re.findall(r"the program `(\w+)`", claims)
     wrong += [f"docs/CLAIMS.md names nothing of the crate {c}" for c in crates if c not in named]
-    for crate, names in stated:
-        if crate not in texts:
-            wrong.append(f"docs/CLAIMS.md names the crate {crate}, which is not listed")
-            continue
-        for name in names.split(","):
-            name = name.strip()
-            word = name.split(".")[-1].split("::")[-1]
-            # A definition begins its line: a name in a comment or in a use does not count.
-            words = r"^\s*(?:(?:pub|abbrev|unfoldable|record|data|fn|enum|struct)\s+)*"
-            if not re.search(words + re.escape(word) + r"(?![\w-])", texts[crate], re.M):
-                wrong.append(f"docs/CLAIMS.md names {name} of {crate}, which has no such name")
+    for doc, text in texts.items():
+        for where, names in CLAIM.findall(text):
+            crate, _, module = where.partition("/")
+            has = public(where) if crate in crates and module else None
+            if has is None:
+                wrong.append(f"{doc} names {names} of {where}, which is no file of a listed crate")
+                continue
+            for name in names.split(","):
+                if name.strip() not in has:
+                    wrong.append(f"{doc} names {name.strip()} of {where}, which has no such public name")
     for line in wrong:
         print(line, file=sys.stderr)
     sys.exit(1 if wrong else 0)

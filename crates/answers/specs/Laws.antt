@@ -1,4 +1,5 @@
--- The laws of the answers: how long they are, and that they are made of the bytes that the request's bursts copied.
+-- The laws of the answers: how long they are, which bits request 2 answers, and that an answer is made of the bytes that the request's
+-- bursts copied. The bytes are a slot's part of the room, in which a queue pair's record has room.
 use mathlib.Core.Path.{_≡_, refl, sym, _∙_, ap}
 use mathlib.Core.List.{List, [], _∷_}
 use mathlib.Core.Logic.{inl, inr}
@@ -8,34 +9,38 @@ use lib.ListN.{length, getD}
 use Rattle.words.specs.Parts.{part-agrees, part, length-part, part-part}
 use Rattle.words.specs.Words.{bits, AreBytes, be32, beBytes}
 use Rattle.words.specs.Leaves.{le-four, part-four, be32-is}
+use Rattle.context.specs.Layout.{sizeOf}
+use Rattle.context.specs.declared.Kind.the-variants as kind
+use Rattle.requests.specs.declared.PsnField.the-variants.{NextSend}
 use Rattle.requests.specs.declared.Command.{Command}
 use Rattle.requests.specs.declared.Command.the-variants as command
 use Rattle.requests.specs.declared.EngineRequest.{EngineRequest}
 use Rattle.requests.specs.declared.EngineRequest.the-variants as engine
 use Rattle.requests.specs.declared.Request.{Request}
 use Rattle.requests.specs.declared.Request.the-variants as request
-use Rattle.burst_table.specs.Bursts.{burstsFrom, commandBursts, engineBursts, burstsOf}
+use Rattle.burst_table.specs.Bursts.{psnPlace, burstsFrom, commandBursts, engineBursts, burstsOf}
 use Rattle.checks.specs.Fields.{stateOf}
 use Rattle.burst_table.specs.Touched.{Touched, all-touched}
-use Rattle.answers.specs.Answers.{stateAnswer, nextAnswer, wholeAnswer, commandAnswer, engineAnswer, answerOf, commandAnswerSize, engineAnswerSize, answerSize}
+use Rattle.answers.specs.Answers.{stateAnswer, nextAnswer, wholeAnswer, commandAnswer, engineAnswer, answerOf}
+use Rattle.answers.specs.Answers.{commandAnswerSize, engineAnswerSize, answerSize}
 
-length-command : (c : Command) (p : List ℕ) → 256 ≤ length p → length (commandAnswer c p) ≡ commandAnswerSize c
+length-command : (c : Command) (p : List ℕ) → sizeOf kind.Qp ≤ length p → length (commandAnswer c p) ≡ commandAnswerSize c
 unfolding wholeAnswer
 length-command (command.Sw2Hw o) p h = refl
 length-command (command.Hw2Sw o) p h = refl
 length-command (command.ResizeCq n) p h = refl
-length-command (command.QueryQp n) p h = length-part 0 256 p h
+length-command (command.QueryQp n) p h = length-part 0 (sizeOf kind.Qp) p h
 length-command (command.ModifyQp e n) p h = refl
 
-length-engine : (e : EngineRequest) (p : List ℕ) → 256 ≤ length p → length (engineAnswer e p) ≡ engineAnswerSize e
+length-engine : (e : EngineRequest) (p : List ℕ) → sizeOf kind.Qp ≤ length p → length (engineAnswer e p) ≡ engineAnswerSize e
 unfolding stateAnswer nextAnswer wholeAnswer
 length-engine (engine.ReadState n) p h = refl
 length-engine (engine.ReadNext n) p h = ap suc (length-part 0x6d 3 p (omega arith))
-length-engine (engine.ReadAll n) p h = length-part 0 256 p h
+length-engine (engine.ReadAll n) p h = length-part 0 (sizeOf kind.Qp) p h
 length-engine (engine.Write w s n psn) p h = refl
 
--- an answer has the length that the table gives
-pub length-answer : (q : Request) (p : List ℕ) → 256 ≤ length p → length (answerOf q p) ≡ answerSize q
+-- An answer has as many bytes as answerSize says.
+pub length-answer : (q : Request) (p : List ℕ) → sizeOf kind.Qp ≤ length p → length (answerOf q p) ≡ answerSize q
 length-answer (request.Command c) p h = length-command c p h
 length-answer (request.Engine e) p h = length-engine e p h
 
@@ -47,14 +52,20 @@ three-bytes x y z h i j =
     let g : (z + y * 0x100 + x * 0x10000) / 1 % 256 ≡ z = omega arith in
     rw (e, f, g)
 
--- of bytes, the three behind a word's first are its low 24 bits, high byte first: so request 2 answers "the low 24 bits" of word 6Ch
-pub psn-bytes : (at : ℕ) (p : List ℕ) → AreBytes p → at + 4 ≤ length p → part (at + 1) 3 p ≡ beBytes 3 (bits 23 0 (be32 at p))
+-- of bytes, the three behind a word's first are its low 24 bits, high byte first
+low-three : (at : ℕ) (p : List ℕ) → AreBytes p → at + 4 ≤ length p → part (at + 1) 3 p ≡ beBytes 3 (bits 23 0 (be32 at p))
 unfolding part bits
-psn-bytes at p a h =
+low-three at p a h =
     let w : bits 23 0 (be32 at p) ≡ getD p (at + 3) 0 + getD p (at + 2) 0 * 0x100 + getD p (at + 1) 0 * 0x10000 =
     rw (← be32-is at p h, le-four) (omega (arith, a at, a (at + 1), a (at + 2), a (at + 3))) in
     sym (part-part at 4 1 3 p h (omega arith)) ∙ ap (part 1 3) (part-four at p h)
     ∙ sym (three-bytes _ _ _ (a (at + 1)) (a (at + 2)) (a (at + 3))) ∙ ap (beBytes 3) (sym w)
+
+-- Of bytes, what request 2 answers behind the state is the PSN: the low 24 bits of the word of next_send_psn (01, The context store).
+pub psn-bytes : (p : List ℕ) → AreBytes p → sizeOf kind.Qp ≤ length p
+    → nextAnswer p ≡ stateOf p ∷ beBytes 3 (bits 23 0 (be32 (psnPlace NextSend) p))
+unfolding nextAnswer
+psn-bytes p a h = ap (λ (l : List ℕ). stateOf p ∷ l) (low-three 0x6c p a (omega arith))
 
 -- p and c agree at every byte that lies in one of the bursts
 abbrev pub AgreeOn : List ℕ → List ℕ → List ℕ → Type 0
@@ -64,11 +75,13 @@ state-agrees : (js p c : List ℕ) → AgreeOn (0 ∷ js) p c → stateOf p ≡ 
 unfolding stateOf
 state-agrees js p c a = rw (a 0 (inl (omega arith, omega arith)))
 
-whole-agrees : (p c : List ℕ) → 256 ≤ length p → 256 ≤ length c → AgreeOn (burstsFrom 0 16) p c → wholeAnswer p ≡ wholeAnswer c
+whole-agrees : (p c : List ℕ) → sizeOf kind.Qp ≤ length p → sizeOf kind.Qp ≤ length c → AgreeOn (burstsFrom 0 16) p c
+    → wholeAnswer p ≡ wholeAnswer c
 unfolding wholeAnswer
-whole-agrees p c h k a = part-agrees 0 256 p c h k (λ i j. a (0 + i) (all-touched 16 (0 + i) (omega arith)))
+whole-agrees p c h k a = part-agrees 0 (sizeOf kind.Qp) p c h k (λ i j. a (0 + i) (all-touched 16 (0 + i) (omega arith)))
 
-next-agrees : (p c : List ℕ) → 256 ≤ length p → 256 ≤ length c → AgreeOn (0 ∷ 6 ∷ []) p c → nextAnswer p ≡ nextAnswer c
+next-agrees : (p c : List ℕ) → sizeOf kind.Qp ≤ length p → sizeOf kind.Qp ≤ length c → AgreeOn (0 ∷ 6 ∷ []) p c
+    → nextAnswer p ≡ nextAnswer c
 unfolding nextAnswer
 next-agrees p c h k a =
     rw (
@@ -76,21 +89,24 @@ next-agrees p c h k a =
       part-agrees 0x6d 3 p c (omega arith) (omega arith) (λ i j. a (0x6d + i) (inr (inl (omega arith, omega arith)))),
     )
 
-command-agrees : (d : Command) (p c : List ℕ) → 256 ≤ length p → 256 ≤ length c → AgreeOn (commandBursts d) p c → commandAnswer d p ≡ commandAnswer d c
+command-agrees : (d : Command) (p c : List ℕ) → sizeOf kind.Qp ≤ length p → sizeOf kind.Qp ≤ length c → AgreeOn (commandBursts d) p c
+    → commandAnswer d p ≡ commandAnswer d c
 command-agrees (command.Sw2Hw o) p c h k a = refl
 command-agrees (command.Hw2Sw o) p c h k a = refl
 command-agrees (command.ResizeCq n) p c h k a = refl
 command-agrees (command.QueryQp n) p c h k a = whole-agrees p c h k a
 command-agrees (command.ModifyQp e n) p c h k a = refl
 
-engine-agrees : (e : EngineRequest) (p c : List ℕ) → 256 ≤ length p → 256 ≤ length c → AgreeOn (engineBursts e) p c → engineAnswer e p ≡ engineAnswer e c
+engine-agrees : (e : EngineRequest) (p c : List ℕ) → sizeOf kind.Qp ≤ length p → sizeOf kind.Qp ≤ length c → AgreeOn (engineBursts e) p c
+    → engineAnswer e p ≡ engineAnswer e c
 unfolding stateAnswer
 engine-agrees (engine.ReadState n) p c h k a = rw (state-agrees [] p c a)
 engine-agrees (engine.ReadNext n) p c h k a = next-agrees p c h k a
 engine-agrees (engine.ReadAll n) p c h k a = whole-agrees p c h k a
 engine-agrees (engine.Write w s n psn) p c h k a = refl
 
--- an answer depends only on the bytes that the request's bursts moved
-pub answer-agrees : (q : Request) (p c : List ℕ) → 256 ≤ length p → 256 ≤ length c → AgreeOn (burstsOf q) p c → answerOf q p ≡ answerOf q c
+-- An answer depends only on the bytes that the request's bursts move.
+pub answer-agrees : (q : Request) (p c : List ℕ) → sizeOf kind.Qp ≤ length p → sizeOf kind.Qp ≤ length c → AgreeOn (burstsOf q) p c
+    → answerOf q p ≡ answerOf q c
 answer-agrees (request.Command d) p c h k a = command-agrees d p c h k a
 answer-agrees (request.Engine e) p c h k a = engine-agrees e p c h k a

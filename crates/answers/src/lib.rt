@@ -1,5 +1,5 @@
-// The answer that collecting a request writes, read from the slot's part of the room. Every function
-// here is a leaf: its callers have tested the lengths.
+// The answer that collecting a request writes, read from the slot's part of the room, in which a queue
+// pair's record has room. Every function here is a leaf: its callers have tested the lengths.
 use requests::Command;
 use requests::EngineRequest;
 use requests::Request;
@@ -7,8 +7,12 @@ ghost use mathlib.Core.Path.{_≡_};
 ghost use Prim.Native.Nat.{_≤_};
 ghost use lib.ListN.{length};
 ghost use Rattle.words.specs.Parts.{splice};
-ghost use Rattle.answers.specs.Answers.{stateAnswer, nextAnswer, wholeAnswer, commandAnswer, engineAnswer, answerOf, commandAnswerSize, engineAnswerSize, answerSize};
+ghost use Rattle.context.specs.Layout.{sizeOf};
+ghost use Rattle.context.specs.declared.Kind.the-variants.{Qp};
+ghost use Rattle.answers.specs.Answers.{stateAnswer, nextAnswer, wholeAnswer, commandAnswer, engineAnswer, answerOf};
+ghost use Rattle.answers.specs.Answers.{commandAnswerSize, engineAnswerSize, answerSize};
 
+// How many bytes a command's answer has.
 fn command_answer_size(command: Command) -> usize
     ensures { λ r. ⌜ r ≡ commandAnswerSize command ⌝ }
 {
@@ -21,6 +25,7 @@ fn command_answer_size(command: Command) -> usize
     }
 }
 
+// How many bytes an engine request's answer has.
 fn engine_answer_size(engine: EngineRequest) -> usize
     ensures { λ r. ⌜ r ≡ engineAnswerSize engine ⌝ }
 {
@@ -42,33 +47,34 @@ pub fn answer_size(request: Request) -> usize
     }
 }
 
-// The state code.
+// Writes the state code.
 fn state_answer(room: &[u8], out: &mut [u8])
-    requires { ⌜ (256 ≤ length (now room)) × (1 ≤ length (now out)) ⌝ }
+    requires { ⌜ (sizeOf Qp ≤ length (now room)) × (1 ≤ length (now out)) ⌝ }
     ensures { λ _. ⌜ now (out .exit) ≡ splice 0 (stateAnswer (now (room .entry))) (now (out .entry)) ⌝ }
 {
     out[0] = checks::state_code(room);
 }
 
-// The state code, then the next PSN, high byte first: as it stands in its word.
+// Writes the state code, then the next PSN, high byte first: as it stands in its word.
 fn next_answer(room: &[u8], out: &mut [u8])
-    requires { ⌜ (256 ≤ length (now room)) × (4 ≤ length (now out)) ⌝ }
+    requires { ⌜ (sizeOf Qp ≤ length (now room)) × (4 ≤ length (now out)) ⌝ }
     ensures { λ _. ⌜ now (out .exit) ≡ splice 0 (nextAnswer (now (room .entry))) (now (out .entry)) ⌝ }
 {
     out[0] = checks::state_code(room);
     words::copy_to(&room[0x6d..0x70], out, 1);
 }
 
-// The whole record.
+// Writes the whole record.
 fn whole_answer(room: &[u8], out: &mut [u8])
-    requires { ⌜ (256 ≤ length (now room)) × (256 ≤ length (now out)) ⌝ }
+    requires { ⌜ (sizeOf Qp ≤ length (now room)) × (sizeOf Qp ≤ length (now out)) ⌝ }
     ensures { λ _. ⌜ now (out .exit) ≡ splice 0 (wholeAnswer (now (room .entry))) (now (out .entry)) ⌝ }
 {
     words::copy_to(&room[0..256], out, 0);
 }
 
+// Writes a command's answer.
 fn command_answer(command: Command, room: &[u8], out: &mut [u8])
-    requires { ⌜ (256 ≤ length (now room)) × (commandAnswerSize command ≤ length (now out)) ⌝ }
+    requires { ⌜ (sizeOf Qp ≤ length (now room)) × (commandAnswerSize command ≤ length (now out)) ⌝ }
     ensures { λ _. ⌜ now (out .exit) ≡ splice 0 (commandAnswer command (now (room .entry))) (now (out .entry)) ⌝ }
 {
     match command {
@@ -80,8 +86,9 @@ fn command_answer(command: Command, room: &[u8], out: &mut [u8])
     }
 }
 
+// Writes an engine request's answer.
 fn engine_answer(engine: EngineRequest, room: &[u8], out: &mut [u8])
-    requires { ⌜ (256 ≤ length (now room)) × (engineAnswerSize engine ≤ length (now out)) ⌝ }
+    requires { ⌜ (sizeOf Qp ≤ length (now room)) × (engineAnswerSize engine ≤ length (now out)) ⌝ }
     ensures { λ _. ⌜ now (out .exit) ≡ splice 0 (engineAnswer engine (now (room .entry))) (now (out .entry)) ⌝ }
 {
     match engine {
@@ -94,7 +101,7 @@ fn engine_answer(engine: EngineRequest, room: &[u8], out: &mut [u8])
 
 // Writes a request's answer to the front of `out`, from `room`, the slot's part of the room.
 pub fn write_answer(request: Request, room: &[u8], out: &mut [u8])
-    requires { ⌜ (256 ≤ length (now room)) × (answerSize request ≤ length (now out)) ⌝ }
+    requires { ⌜ (sizeOf Qp ≤ length (now room)) × (answerSize request ≤ length (now out)) ⌝ }
     ensures { λ _. ⌜ now (out .exit) ≡ splice 0 (answerOf request (now (room .entry))) (now (out .entry)) ⌝ }
 {
     match request {

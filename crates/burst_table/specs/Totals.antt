@@ -1,20 +1,22 @@
--- A bound of the burst table.
+-- Every request moves a burst.
+use mathlib.Core.List.{List}
 use Prim.Native.Nat.{_≤_}
+use native.Mathlib.Omega.{arith}
+use lib.ListN.{length}
 use lib.Dec.{lit≤}
-use Rattle.requests.specs.declared.Command.the-variants as command
-use Rattle.requests.specs.declared.EngineRequest.the-variants as engine
+use Rattle.context.specs.Records.{size-least}
+use Rattle.context.specs.declared.Record.{Record}
 use Rattle.requests.specs.declared.Request.{Request}
-use Rattle.requests.specs.declared.Request.the-variants as request
-use Rattle.burst_table.specs.Bursts.{totalOf}
+use Rattle.request_table.specs.Records.{recordOf, recordsOf}
+use Rattle.burst_table.specs.Sizes.{burstSize}
+use Rattle.burst_table.specs.Bursts.{joinedSize, burstCount, Shape, whole, stateOnly, stateAndPsn, shapeOf, burstsBy, totalOf}
+use Rattle.burst_table.specs.Touched.{length-row}
+use Rattle.burst_table.specs.Laws.{count-bursts}
 
--- every request moves a burst
+total-by : (s : Shape) (Xs : List Record) → burstSize ≤ joinedSize Xs → 1 ≤ length (burstsBy s Xs)
+total-by whole Xs h = omega (arith, length-row 0 (burstCount Xs), count-bursts Xs)
+total-by stateOnly Xs h = lit≤ tt
+total-by (stateAndPsn p) Xs h = lit≤ tt
+
 pub total-positive : (q : Request) → 1 ≤ totalOf q
-total-positive (request.Command (command.Sw2Hw o)) = lit≤ tt
-total-positive (request.Command (command.Hw2Sw o)) = lit≤ tt
-total-positive (request.Command (command.ResizeCq n)) = lit≤ tt
-total-positive (request.Command (command.QueryQp n)) = lit≤ tt
-total-positive (request.Command (command.ModifyQp e n)) = lit≤ tt
-total-positive (request.Engine (engine.ReadState n)) = lit≤ tt
-total-positive (request.Engine (engine.ReadNext n)) = lit≤ tt
-total-positive (request.Engine (engine.ReadAll n)) = lit≤ tt
-total-positive (request.Engine (engine.Write p s n psn)) = lit≤ tt
+total-positive q = total-by (shapeOf q) (recordsOf q) (omega (arith, size-least (recordOf q)))

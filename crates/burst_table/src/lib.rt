@@ -1,11 +1,34 @@
-// The burst table: how many bursts a request moves, and where each of them lies.
+// The burst table: how many bursts a request moves, and where each of them lies; and the sizes of bursts and room.
 use requests::Command;
 use requests::EngineRequest;
 use requests::PsnField;
 use requests::Request;
 ghost use mathlib.Core.Path.{_≡_};
+ghost use mathlib.Core.List.{[]};
 ghost use Prim.Native.Nat.{_*_, _<_};
-ghost use Rattle.burst_table.specs.Bursts.{burstSize, psnPlace, commandTotal, engineTotal, totalOf, psnOffset, engineOffset, commandOffset, offsetOf};
+ghost use lib.ListN.{length, getD};
+ghost use Rattle.burst_table.specs.Sizes.{burstSize, slotCount, slotStart};
+ghost use Rattle.burst_table.specs.Bursts.{psnPlace, commandBursts, engineBursts, totalOf, burstsBy, stateAndPsn, offsetOf};
+
+// The bytes of a burst.
+pub const BURST: usize = 16;
+
+// The slots of the row.
+pub const SLOTS: usize = 8;
+
+// The bytes of one slot's part of the room.
+pub const SLOT_ROOM: usize = 256;
+
+// The bytes of the room.
+pub const ROOM: usize = SLOTS * SLOT_ROOM;
+
+// Where slot k's part of the room starts.
+pub fn slot_start(k: usize) -> usize
+    requires { ⌜ k < slotCount ⌝ }
+    ensures { λ r. ⌜ r ≡ slotStart k ⌝ }
+{
+    k * SLOT_ROOM
+}
 
 // Where a PSN's word starts in a queue pair's record.
 pub fn psn_place(which: PsnField) -> usize
@@ -18,8 +41,9 @@ pub fn psn_place(which: PsnField) -> usize
     }
 }
 
+// All bursts of the command's record.
 fn command_total(command: Command) -> u8
-    ensures { λ r. ⌜ r ≡ commandTotal command ⌝ }
+    ensures { λ r. ⌜ r ≡ length (commandBursts command) ⌝ }
 {
     match command {
         Command::Sw2Hw(_) => 4,
@@ -31,7 +55,7 @@ fn command_total(command: Command) -> u8
 }
 
 fn engine_total(engine: EngineRequest) -> u8
-    ensures { λ r. ⌜ r ≡ engineTotal engine ⌝ }
+    ensures { λ r. ⌜ r ≡ length (engineBursts engine) ⌝ }
 {
     match engine {
         EngineRequest::ReadState(_) => 1,
@@ -55,23 +79,23 @@ pub fn total(request: Request) -> u8
 fn whole_offset(m: u8) -> usize
     ensures { λ r. ⌜ r ≡ m * burstSize ⌝ }
 {
-    m as usize * 16
+    m as usize * BURST
 }
 
 // The state's burst, then the PSN's.
 fn psn_offset(which: PsnField, m: u8) -> usize
     requires { ⌜ m < 2 ⌝ }
-    ensures { λ r. ⌜ r ≡ psnOffset which m ⌝ }
+    ensures { λ r. ⌜ r ≡ getD (burstsBy (stateAndPsn which) []) m 0 * burstSize ⌝ }
 {
     if m == 0 {
         return 0;
     }
-    psn_place(which) / 16 * 16
+    psn_place(which) / BURST * BURST
 }
 
 fn engine_offset(engine: EngineRequest, m: u8) -> usize
-    requires { ⌜ m < engineTotal engine ⌝ }
-    ensures { λ r. ⌜ r ≡ engineOffset engine m ⌝ }
+    requires { ⌜ m < length (engineBursts engine) ⌝ }
+    ensures { λ r. ⌜ r ≡ getD (engineBursts engine) m 0 * burstSize ⌝ }
 {
     match engine {
         EngineRequest::ReadState(_) => 0,
@@ -81,26 +105,13 @@ fn engine_offset(engine: EngineRequest, m: u8) -> usize
     }
 }
 
-fn command_offset(command: Command, m: u8) -> usize
-    requires { ⌜ m < commandTotal command ⌝ }
-    ensures { λ r. ⌜ r ≡ commandOffset command m ⌝ }
-{
-    match command {
-        Command::Sw2Hw(_) => whole_offset(m),
-        Command::Hw2Sw(_) => whole_offset(m),
-        Command::ResizeCq(_) => whole_offset(m),
-        Command::QueryQp(_) => whole_offset(m),
-        Command::ModifyQp(_, _) => whole_offset(m),
-    }
-}
-
 // Where burst m of a request starts in its record.
 pub fn offset(request: Request, m: u8) -> usize
     requires { ⌜ m < totalOf request ⌝ }
     ensures { λ r. ⌜ r ≡ offsetOf request m ⌝ }
 {
     match request {
-        Request::Command(command) => command_offset(command, m),
+        Request::Command(_) => whole_offset(m),
         Request::Engine(engine) => engine_offset(engine, m),
     }
 }

@@ -7,11 +7,10 @@ use native.Mathlib.Decide.{decLt}
 use native.Mathlib.Omega.{arith}
 use lib.ListN.{length, getD}
 use Rattle.words.specs.Parts.{part, splice, length-part, getD-part, length-splice, splice-below, splice-in, splice-above}
-use Rattle.burst_table.specs.Bursts.{burstSize}
-use Rattle.burst_table.specs.Touched.{Inside, Touched}
-use Rattle.bursts.specs.Bursts.{Fit, inside?}
+use Rattle.burst_table.specs.Sizes.{burstSize}
+use Rattle.burst_table.specs.Touched.{Inside, Touched, Fit, inside?}
 
--- "A read burst is copied to the offset in that part which it has in the record": burst j of the record c goes to the buffer
+-- burst j of the record c goes to the offset in the buffer that it has in the record (01, Bursts, slots and holds)
 abbrev pub copy : ℕ → List ℕ → List ℕ → List ℕ
 copy j c buf = splice (burstSize * j) (part (burstSize * j) burstSize c) buf
 
@@ -20,29 +19,29 @@ abbrev pub copies : List ℕ → List ℕ → List ℕ → List ℕ
 copies [] c buf = buf
 copies (j ∷ js) c buf = copies js c (copy j c buf)
 
-module _ (j : ℕ) (c buf : List ℕ) (fit : 16 * j + 16 ≤ length c) (room : 16 * j + 16 ≤ length buf) where
-  long : length (part (16 * j) 16 c) ≡ 16
-  long = length-part (16 * j) 16 c fit
+module _ (j : ℕ) (c buf : List ℕ) (fit : burstSize * j + burstSize ≤ length c) (room : burstSize * j + burstSize ≤ length buf) where
+  long : length (part (burstSize * j) burstSize c) ≡ burstSize
+  long = length-part (burstSize * j) burstSize c fit
 
-  fits : 16 * j + length (part (16 * j) 16 c) ≤ length buf
+  fits : burstSize * j + length (part (burstSize * j) burstSize c) ≤ length buf
   fits = omega (arith, long)
 
   pub length-copy : length (copy j c buf) ≡ length buf
-  length-copy = length-splice (16 * j) (part (16 * j) 16 c) buf fits
+  length-copy = length-splice (burstSize * j) (part (burstSize * j) burstSize c) buf fits
 
   pub copy-in : (i : ℕ) → Inside i j → getD (copy j c buf) i 0 ≡ getD c i 0
   copy-in i w =
-      let e : 16 * j + (i - 16 * j) ≡ i = omega arith in
-      splice-in (16 * j) (part (16 * j) 16 c) buf fits i (w .0) (omega (arith, long))
-      ∙ getD-part (16 * j) 16 c (i - 16 * j) (omega arith) ∙ ap (λ (x : ℕ). getD c x 0) e
+      let e : burstSize * j + (i - burstSize * j) ≡ i = omega arith in
+      splice-in (burstSize * j) (part (burstSize * j) burstSize c) buf fits i (w .0) (omega (arith, long))
+      ∙ getD-part (burstSize * j) burstSize c (i - burstSize * j) (omega arith) ∙ ap (λ (x : ℕ). getD c x 0) e
 
   pub copy-out : (i : ℕ) → ¬ Inside i j → getD (copy j c buf) i 0 ≡ getD buf i 0
-  copy-out i n = go (decLt i (16 * j)) (decLt i (16 * j + 16))
+  copy-out i n = go (decLt i (burstSize * j)) (decLt i (burstSize * j + burstSize))
     where
-      go : Dec (i < 16 * j) → Dec (i < 16 * j + 16) → getD (copy j c buf) i 0 ≡ getD buf i 0
-      go (yes a) b = splice-below (16 * j) (part (16 * j) 16 c) buf fits i a
+      go : Dec (i < burstSize * j) → Dec (i < burstSize * j + burstSize) → getD (copy j c buf) i 0 ≡ getD buf i 0
+      go (yes a) b = splice-below (burstSize * j) (part (burstSize * j) burstSize c) buf fits i a
       go (no a) (yes b) = absurd (n (omega arith, b))
-      go (no a) (no b) = splice-above (16 * j) (part (16 * j) 16 c) buf fits i (omega (arith, long))
+      go (no a) (no b) = splice-above (burstSize * j) (part (burstSize * j) burstSize c) buf fits i (omega (arith, long))
 
 -- the bursts that are left still fit the buffer
 fit-on : (j : ℕ) (js c buf : List ℕ) → Fit (length c) (j ∷ js) → Fit (length buf) (j ∷ js) → Fit (length (copy j c buf)) js

@@ -12,7 +12,7 @@ use Rattle.requests.specs.declared.Request.the-variants as request
 use Rattle.byte_rule.specs.Bytes.{withState, psnByte, writeByte}
 use Rattle.bursts.specs.Moves.{writtenPart}
 
--- "P12 word 84h 0x07000010, expected PSN 0x20 written: 0x07000020."
+-- P12: writing expected PSN 0x20 to word 0x07000010 leaves the RNR byte (01, Examples to hold it against)
 pub p12 : (n : QpNumber) (s : State) (mail : List ℕ)
     → beValue (writtenPart (request.Engine (engine.Write Expected s n 0x20)) mail 0x84 (beBytes 4 0x07000010)) ≡ 0x07000020
 unfolding beValue beBytes writtenPart mapFrom writeByte withState psnByte

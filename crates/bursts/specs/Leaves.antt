@@ -7,7 +7,8 @@ use lib.ListN.{length, take, drop}
 use Rattle.words.specs.Parts.{part, splice, length-part, lent-splice}
 use Rattle.words.specs.Maps.{length-mapFrom}
 use Rattle.requests.specs.declared.Request.{Request}
-use Rattle.request_table.specs.Mailboxes.{needOf}
+use Rattle.mailboxes.specs.Mailboxes.{needOf}
+use Rattle.burst_table.specs.Sizes.{burstSize}
 use Rattle.byte_rule.specs.Bytes.{byteOf}
 use Rattle.bursts.specs.Moves.{writtenPart, writeAt, copyAt}
 
@@ -16,28 +17,31 @@ unfolding writtenPart
 length-writtenPart q mail first p = length-mapFrom (byteOf q mail) first p
 
 -- The two shapes that a lent part leaves: n is the needed length as a call answered it, out the part's new contents.
-pub written-lent : (q : Request) (at base first n : ℕ) (room store out : List ℕ) → n ≡ needOf q → at + 16 ≤ length store
-    → out ≡ writtenPart q (take (base + n - base) (drop base room)) first (take (at + 16 - at) (drop at store))
-    → take at store ++ (out ++ drop (at + 16 - at) (drop at store)) ≡ writeAt q (part base (needOf q) room) at first store
+pub written-lent : (q : Request) (at base first n : ℕ) (room store out : List ℕ) → n ≡ needOf q → at + burstSize ≤ length store
+    → out ≡ writtenPart q (take (base + n - base) (drop base room)) first (take (at + burstSize - at) (drop at store))
+    → take at store ++ (out ++ drop (at + burstSize - at) (drop at store)) ≡ writeAt q (part base (needOf q) room) at first store
 unfolding part writeAt
 written-lent q at base first n room store out k h e =
-    rw add-sub-cancel-left (lent-splice at 16 out store long ∙ ap (λ (ys : List ℕ). splice at ys store) same)
+    rw add-sub-cancel-left (lent-splice at burstSize out store long ∙ ap (λ (ys : List ℕ). splice at ys store) same)
   where
-    same : out ≡ writtenPart q (take (needOf q) (drop base room)) first (take 16 (drop at store))
+    same : out ≡ writtenPart q (take (needOf q) (drop base room)) first (take burstSize (drop at store))
     same = e ∙ rw (add-sub-cancel-left, add-sub-cancel-left, k)
 
-    long : length out ≡ 16
-    long = ap length same ∙ length-writtenPart q (take (needOf q) (drop base room)) first (take 16 (drop at store)) ∙ length-part at 16 store h
+    long : length out ≡ burstSize
+    long =
+        ap length same
+        ∙ length-writtenPart q (take (needOf q) (drop base room)) first (take burstSize (drop at store))
+        ∙ length-part at burstSize store h
 
-pub copied-lent : (at to : ℕ) (store room out : List ℕ) → at + 16 ≤ length store
-    → out ≡ take (at + 16 - at) (drop at store)
-    → take to room ++ (out ++ drop (to + 16 - to) (drop to room)) ≡ copyAt at store to room
+pub copied-lent : (at to : ℕ) (store room out : List ℕ) → at + burstSize ≤ length store
+    → out ≡ take (at + burstSize - at) (drop at store)
+    → take to room ++ (out ++ drop (to + burstSize - to) (drop to room)) ≡ copyAt at store to room
 unfolding part copyAt
 copied-lent at to store room out h e =
-    rw add-sub-cancel-left (lent-splice to 16 out room long ∙ ap (λ (ys : List ℕ). splice to ys room) same)
+    rw add-sub-cancel-left (lent-splice to burstSize out room long ∙ ap (λ (ys : List ℕ). splice to ys room) same)
   where
-    same : out ≡ take 16 (drop at store)
+    same : out ≡ take burstSize (drop at store)
     same = e ∙ rw add-sub-cancel-left
 
-    long : length out ≡ 16
-    long = ap length same ∙ length-part at 16 store h
+    long : length out ≡ burstSize
+    long = ap length same ∙ length-part at burstSize store h

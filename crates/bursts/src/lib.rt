@@ -1,16 +1,18 @@
-// The leaves that move one burst: a 16-byte part of the store is changed by the byte rule, or copied
-// to the room.
+// The leaves that move one burst: a part of the store is changed by the byte rule, or copied to the
+// room.
+use burst_table::BURST;
 use requests::Request;
 ghost use mathlib.Core.Path.{_≡_};
 ghost use lib.ListN.{length};
 ghost use Prim.Native.Nat.{_+_, _≤_};
 ghost use Rattle.words.specs.Parts.{part};
-ghost use Rattle.request_table.specs.Mailboxes.{needOf};
+ghost use Rattle.mailboxes.specs.Mailboxes.{needOf};
+ghost use Rattle.burst_table.specs.Sizes.{burstSize, slotRoom};
 ghost use Rattle.bursts.specs.Moves.{writtenPart, writeAt, copyAt};
 
 // Changes a part of a record, which starts at offset `first` of it, as the request does.
 fn write_burst(part: &mut [u8], image: &[u8], request: Request, first: usize)
-    requires { ⌜ first + length (now part) ≤ 256 ⌝ }
+    requires { ⌜ first + length (now part) ≤ slotRoom ⌝ }
     requires { ⌜ needOf request ≤ length (now image) ⌝ }
     ensures { λ _. ⌜ now (part .exit) ≡ writtenPart request (now (image .entry)) first (now (part .entry)) ⌝ }
 {
@@ -41,23 +43,24 @@ pub fn write_at(
     request: Request,
     first: usize,
 )
-    requires { ⌜ at + 16 ≤ length (now store) ⌝ }
+    requires { ⌜ at + burstSize ≤ length (now store) ⌝ }
     requires { ⌜ base + needOf request ≤ length (now room) ⌝ }
-    requires { ⌜ first + 16 ≤ 256 ⌝ }
-    ensures { λ _. ⌜ now (store .exit) ≡ writeAt request (part base (needOf request) (now (room .entry))) at first (now (store .entry)) ⌝ }
+    requires { ⌜ first + burstSize ≤ slotRoom ⌝ }
+    ensures { λ _. ⌜ now (store .exit)
+        ≡ writeAt request (part base (needOf request) (now (room .entry))) at first (now (store .entry)) ⌝ }
 {
-    let end = at + 16;
-    let stop = base + request_table::need(request);
+    let end = at + BURST;
+    let stop = base + mailboxes::need(request);
     write_burst(&mut store[at..end], &room[base..stop], request, first);
 }
 
 // Copies the burst at `at` of the store to `to` of the room.
 pub fn read_at(store: &[u8], at: usize, room: &mut [u8], to: usize)
-    requires { ⌜ at + 16 ≤ length (now store) ⌝ }
-    requires { ⌜ to + 16 ≤ length (now room) ⌝ }
+    requires { ⌜ at + burstSize ≤ length (now store) ⌝ }
+    requires { ⌜ to + burstSize ≤ length (now room) ⌝ }
     ensures { λ _. ⌜ now (room .exit) ≡ copyAt at (now (store .entry)) to (now (room .entry)) ⌝ }
 {
-    let until = at + 16;
-    let stop = to + 16;
+    let until = at + BURST;
+    let stop = to + BURST;
     read_burst(&store[at..until], &mut room[to..stop]);
 }

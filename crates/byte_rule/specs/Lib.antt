@@ -3,3 +3,4 @@ pub mod Taken
 pub mod Bytes
 pub mod Needed
 pub mod States
+pub mod Front

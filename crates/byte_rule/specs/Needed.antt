@@ -1,23 +1,19 @@
--- What the code of the byte rule rests on: a byte that is taken stands in the needed image, and codes and places are small.
+-- A byte that an edge takes stands in the needed image; and an edge's byte in the steps of the code.
 use mathlib.Core.Path.{_≡_, refl, sym, _∙_}
 use mathlib.Core.Bool.{Bool, true, false, false≢true}
 use mathlib.Core.List.{List}
 use Prim.Native.Nat.{ℕ, _+_, _-_, _*_, _/_, _≤_, _<_}
 use native.Mathlib.Omega.{arith}
 use borrow.Author.Tests.{eqb-true}
-use lib.Dec.{eqb, lit<}
+use lib.Dec.{eqb}
 use Rattle.words.specs.Choice.{pick-no, either, within}
-use Rattle.words.specs.Tests.{within-low, within-high}
-use Rattle.edges.specs.States.{stateCode}
+use Rattle.words.specs.Tests.{within-high}
 use Rattle.edges.specs.Edges.{toOf}
 use Rattle.edges.specs.declared.State.{State}
-use Rattle.edges.specs.declared.State.the-variants.{Reset, Init, Rtr, Rts, Sqe, Sqd, Err}
 use Rattle.edges.specs.declared.Edge.{Edge}
-use Rattle.edges.specs.declared.Edge.the-variants.{ResetToInit, InitToInit, InitToRtr, RtrToRts, RtsToRts, SqeToRts, RtsToSqd, SqdToSqd, SqdToRts, ToErr, ToReset}
-use Rattle.requests.specs.declared.PsnField.{PsnField}
-use Rattle.requests.specs.declared.PsnField.the-variants.{NextSend, LastAcked, Expected}
-use Rattle.request_table.specs.Mailboxes.{edgeNeed}
-use Rattle.burst_table.specs.Bursts.{psnPlace}
+use Rattle.edges.specs.declared.Edge.the-variants.{ResetToInit, InitToInit, InitToRtr, RtrToRts, RtsToRts, SqeToRts}
+use Rattle.edges.specs.declared.Edge.the-variants.{RtsToSqd, SqdToSqd, SqdToRts, ToErr, ToReset}
+use Rattle.mailboxes.specs.Mailboxes.{edgeNeed}
 use Rattle.byte_rule.specs.Bytes.{withState, takenByte, edgeByte}
 use Rattle.byte_rule.specs.Taken.{takesWord, wordOf, zeroes}
 
@@ -45,7 +41,8 @@ taken-word RtrToRts w t =
     omega (
       arith,
       either-at-most (within 0x20 0x28 w) (either (eqb w 0x6c) (eqb w 0x7c)) w 0xa0 (range-at-most 0x20 0x28 0xa0 w (omega arith))
-          (either-at-most (eqb w 0x6c) (eqb w 0x7c) w 0xa0 (is-at-most w 0x6c 0xa0 (omega arith)) (is-at-most w 0x7c 0xa0 (omega arith))) t,
+          (either-at-most (eqb w 0x6c) (eqb w 0x7c) w 0xa0 (is-at-most w 0x6c 0xa0 (omega arith))
+          (is-at-most w 0x7c 0xa0 (omega arith))) t,
     )
 taken-word RtsToRts w t = omega (arith, range-at-most 0x20 0x28 0xa0 w (omega arith) t)
 taken-word SqeToRts w t = omega (arith, is-at-most w 0x98 0xa0 (omega arith) t)
@@ -63,31 +60,11 @@ taken-needed e i t = omega (arith, taken-word e (wordOf i) t)
 pub taken-inside : (e : Edge) (i n : ℕ) (r : Bool) → r ≡ takesWord e (i / 4 * 4) → r ≡ true → edgeNeed e ≤ n → i < n
 taken-inside e i n r p q h = omega (arith, taken-needed e i (sym p ∙ q))
 
-pub told-low : (a b i : ℕ) (r : Bool) → r ≡ within a b i → r ≡ true → a ≤ i
-told-low a b i r p q = within-low a b i (sym p ∙ q)
-
-pub told-high : (a b i : ℕ) (r : Bool) → r ≡ within a b i → r ≡ true → i ≤ b
-told-high a b i r p q = within-high a b i (sym p ∙ q)
-
 -- an edge that does not zero the record, in the steps of the code: z is the test's answer, s the state that the edge leads to,
 -- t the byte with the taken words
 pub edge-set : (e : Edge) (image : List ℕ) (i old : ℕ) {z : Bool} {s : State} {t r : ℕ} → z ≡ zeroes e → z ≡ false → s ≡ toOf e
     → t ≡ takenByte e image i old → r ≡ withState s i t → r ≡ edgeByte e image i old
 unfolding edgeByte
 edge-set e image i old p q k g h =
-    h ∙ rw (k, g) (pick-no (zeroes e) 0 (withState (toOf e) i (takenByte e image i old)) (withState (toOf e) i (takenByte e image i old)) (sym p ∙ q) refl)
-
--- "state in 31:28": a code fits the top half of a byte
-pub stateCode-small : (s : State) → stateCode s < 7
-stateCode-small Reset = lit< tt
-stateCode-small Init = lit< tt
-stateCode-small Rtr = lit< tt
-stateCode-small Rts = lit< tt
-stateCode-small Sqe = lit< tt
-stateCode-small Sqd = lit< tt
-stateCode-small Err = lit< tt
-
-pub psnPlace-small : (p : PsnField) → psnPlace p < 256
-psnPlace-small NextSend = lit< tt
-psnPlace-small LastAcked = lit< tt
-psnPlace-small Expected = lit< tt
+    let b : ℕ = withState (toOf e) i (takenByte e image i old) in
+    h ∙ rw (k, g) (pick-no (zeroes e) 0 b b (sym p ∙ q) refl)

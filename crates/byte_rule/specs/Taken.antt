@@ -4,9 +4,10 @@ use Prim.Native.Nat.{ℕ, _*_, _/_}
 use lib.Dec.{eqb}
 use Rattle.words.specs.Choice.{either, within}
 use Rattle.edges.specs.declared.Edge.{Edge}
-use Rattle.edges.specs.declared.Edge.the-variants.{ResetToInit, InitToInit, InitToRtr, RtrToRts, RtsToRts, SqeToRts, RtsToSqd, SqdToSqd, SqdToRts, ToErr, ToReset}
+use Rattle.edges.specs.declared.Edge.the-variants.{ResetToInit, InitToInit, InitToRtr, RtrToRts, RtsToRts, SqeToRts}
+use Rattle.edges.specs.declared.Edge.the-variants.{RtsToSqd, SqdToSqd, SqdToRts, ToErr, ToReset}
 
--- The table of edges, column "Words taken": the test is asked of a word's offset.
+-- The words of the image that each edge takes, each by its offset; both ends of a range are taken (01, Commands, the table of edges).
 abbrev pub takesWord : Edge → ℕ → Bool
 takesWord ResetToInit w = within 0x00 0xa0 w
 takesWord InitToInit w = within 0x04 0x4c w
@@ -20,11 +21,11 @@ takesWord SqdToRts w = either (within 0x20 0x4c w) (eqb w 0x98)
 takesWord ToErr w = false
 takesWord ToReset w = false
 
--- the offset of the word that holds byte i
+-- The offset of the word that holds byte i.
 abbrev pub wordOf : ℕ → ℕ
 wordOf i = i / 4 * 4
 
--- "all 256 bytes zero"
+-- The edge to RESET leaves a record that is all zero (01, Commands, the table of edges).
 abbrev pub zeroes : Edge → Bool
 zeroes ResetToInit = false
 zeroes InitToInit = false

@@ -12,9 +12,12 @@ ghost use lib.Dec.{eqb};
 ghost use lib.ListN.{length};
 ghost use Prim.Native.Nat.{_≤_, _<_};
 ghost use Rattle.words.specs.Choice.{within, either};
-ghost use Rattle.request_table.specs.Mailboxes.{storedOf, edgeNeed, commandNeed, needOf};
+ghost use Rattle.context.specs.Layout.{sizeOf};
+ghost use Rattle.context.specs.declared.Kind.the-variants.{Qp};
+ghost use Rattle.mailboxes.specs.Mailboxes.{storedOf, edgeNeed, commandNeed, needOf};
 ghost use Rattle.byte_rule.specs.Taken.{takesWord, zeroes};
-ghost use Rattle.byte_rule.specs.Bytes.{withState, takenByte, edgeByte, sw2hwByte, resizeByte, psnByte, writeByte, commandByte, engineByte, byteOf};
+ghost use Rattle.byte_rule.specs.Bytes.{withState, takenByte, edgeByte, sw2hwByte, resizeByte};
+ghost use Rattle.byte_rule.specs.Bytes.{psnByte, writeByte, commandByte, engineByte, byteOf};
 
 // Whether first <= i <= last.
 fn in_range(first: usize, last: usize, i: usize) -> bool
@@ -68,6 +71,7 @@ fn takes_word(edge: Edge, w: usize) -> bool
     }
 }
 
+// Whether an edge leaves a record that is all zero.
 fn zeroes_record(edge: Edge) -> bool
     ensures { λ r. ⌜ r ≡ zeroes edge ⌝ }
 {
@@ -89,7 +93,7 @@ fn zeroes_record(edge: Edge) -> bool
 // Byte `at` of the record with the words that the edge takes.
 fn taken_byte(edge: Edge, image: &[u8], at: usize, old: u8) -> u8
     requires { ⌜ edgeNeed edge ≤ length (now image) ⌝ }
-    requires { ⌜ at < 256 ⌝ }
+    requires { ⌜ at < sizeOf Qp ⌝ }
     ensures { λ r. ⌜ r ≡ takenByte edge (now (image .entry)) at old ⌝ }
 {
     if takes_word(edge, at / 4 * 4) {
@@ -108,9 +112,10 @@ fn with_state(to: State, at: usize, b: u8) -> u8
     b
 }
 
+// Byte `at` of a queue pair's record after an edge.
 fn edge_byte(edge: Edge, image: &[u8], at: usize, old: u8) -> u8
     requires { ⌜ edgeNeed edge ≤ length (now image) ⌝ }
-    requires { ⌜ at < 256 ⌝ }
+    requires { ⌜ at < sizeOf Qp ⌝ }
     ensures { λ r. ⌜ r ≡ edgeByte edge (now (image .entry)) at old ⌝ }
 {
     if zeroes_record(edge) {
@@ -119,11 +124,12 @@ fn edge_byte(edge: Edge, image: &[u8], at: usize, old: u8) -> u8
     with_state(edges::target(edge), at, taken_byte(edge, image, at, old))
 }
 
+// Byte `at` of a record that SW2HW hands to the hardware.
 fn sw2hw_byte(owned: Owned, image: &[u8], at: usize) -> u8
     requires { ⌜ storedOf owned ≤ length (now image) ⌝ }
     ensures { λ r. ⌜ r ≡ sw2hwByte owned (now (image .entry)) at ⌝ }
 {
-    if at < request_table::stored(owned) {
+    if at < mailboxes::stored(owned) {
         return image[at];
     }
     if at == 63 {
@@ -132,6 +138,7 @@ fn sw2hw_byte(owned: Owned, image: &[u8], at: usize) -> u8
     0
 }
 
+// Byte `at` of a completion queue's record after RESIZE_CQ.
 fn resize_byte(image: &[u8], at: usize, old: u8) -> u8
     requires { ⌜ 8 ≤ length (now image) ⌝ }
     ensures { λ r. ⌜ r ≡ resizeByte (now (image .entry)) at old ⌝ }
@@ -147,7 +154,7 @@ fn resize_byte(image: &[u8], at: usize, old: u8) -> u8
 
 // Byte `at` of a record whose word at `word` gets a PSN, high byte first; the word's top byte stays.
 fn psn_byte(word: usize, psn: u32, at: usize, old: u8) -> u8
-    requires { ⌜ word < 256 ⌝ }
+    requires { ⌜ word < sizeOf Qp ⌝ }
     ensures { λ r. ⌜ r ≡ psnByte word psn at old ⌝ }
 {
     if at == word + 1 {
@@ -162,6 +169,7 @@ fn psn_byte(word: usize, psn: u32, at: usize, old: u8) -> u8
     old
 }
 
+// Byte `at` of a queue pair's record after an engine write.
 fn write_byte(which: PsnField, psn: u32, to: State, at: usize, old: u8) -> u8
     ensures { λ r. ⌜ r ≡ writeByte which psn to at old ⌝ }
 {
@@ -172,9 +180,10 @@ fn write_byte(which: PsnField, psn: u32, to: State, at: usize, old: u8) -> u8
     )
 }
 
+// Byte `at` of the record after the command.
 fn command_byte(command: Command, image: &[u8], at: usize, old: u8) -> u8
     requires { ⌜ commandNeed command ≤ length (now image) ⌝ }
-    requires { ⌜ at < 256 ⌝ }
+    requires { ⌜ at < sizeOf Qp ⌝ }
     ensures { λ r. ⌜ r ≡ commandByte command (now (image .entry)) at old ⌝ }
 {
     match command {
@@ -186,6 +195,7 @@ fn command_byte(command: Command, image: &[u8], at: usize, old: u8) -> u8
     }
 }
 
+// Byte `at` of the record after the engine request.
 fn engine_byte(engine: EngineRequest, at: usize, old: u8) -> u8
     ensures { λ r. ⌜ r ≡ engineByte engine at old ⌝ }
 {
@@ -200,7 +210,7 @@ fn engine_byte(engine: EngineRequest, at: usize, old: u8) -> u8
 // Byte `at` of the record after the request, which was `old`; `image` has the needed mailbox bytes.
 pub fn new_byte(request: Request, image: &[u8], at: usize, old: u8) -> u8
     requires { ⌜ needOf request ≤ length (now image) ⌝ }
-    requires { ⌜ at < 256 ⌝ }
+    requires { ⌜ at < sizeOf Qp ⌝ }
     ensures { λ r. ⌜ r ≡ byteOf request (now (image .entry)) at old ⌝ }
 {
     match request {

@@ -9,19 +9,19 @@ use lib.ListN.{length, getD}
 use Rattle.words.specs.Words.{bits, AreBytes, be32}
 use Rattle.words.specs.Leaves.{le-four, be32-is}
 
--- "word 00h has the state in 31:28 and the service type in 23:16": words are big-endian, so these are the top half of byte
--- 0 and the whole of byte 1
+-- The state code in bits 31:28 of word 00h and the service type in bits 23:16: words are big-endian, so these are the top half of byte 0
+-- and the whole of byte 1 (01, The context store).
 unfoldable pub stateOf : List ℕ → ℕ
 stateOf r = getD r 0 0 / 16
 
 unfoldable pub serviceOf : List ℕ → ℕ
 serviceOf r = getD r 1 0
 
--- "byte 63 is 1 while the hardware owns the record"; "Any other byte 63 reads as software's."
+-- The hardware owns the record while byte 63 is 1, and software with any other value (01, The context store).
 unfoldable pub isHardware : List ℕ → Bool
 isHardware r = eqb (getD r 63 0) 1
 
--- of bytes, they are the bits of word 00h that 01 names
+-- Of bytes, they are the bits of word 00h that 01 names.
 pub state-bits : (r : List ℕ) → AreBytes r → 4 ≤ length r → bits 31 28 (be32 0 r) ≡ stateOf r
 unfolding bits stateOf
 state-bits r a h = rw (← be32-is 0 r h, le-four) (omega (arith, a 0, a 1, a 2, a 3))

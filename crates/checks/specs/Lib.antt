@@ -1,4 +1,4 @@
--- What a request asks of its record and its mailbox.
+-- What a request asks of its record.
 pub mod Fields
+pub mod Verdicts
 pub mod Permission
-pub mod Content

@@ -1,10 +1,14 @@
 -- Whether a record's contents permit a request: the owner rule and the decision on edges.
+use mathlib.Core.Path.{_≡_, refl, sym, _∙_, ap}
+use mathlib.Core.Bool.{Bool, true, false, not}
 use mathlib.Core.List.{List}
+use Prim.Native.Nat.{ℕ}
+use native.Mathlib.Omega.{arith}
 use Rattle.words.specs.Choice.{pick}
-use Rattle.edges.specs.Edges.{judgeOf}
+use Rattle.edges.specs.Edges.{permits, judgeOf}
+use Rattle.edges.specs.declared.Move.{Move}
 use Rattle.edges.specs.declared.Move.the-variants as move
-use Rattle.edges.specs.declared.Verdict.{Verdict}
-use Rattle.edges.specs.declared.Verdict.the-variants.{Permitted, NotPermitted}
+use Rattle.edges.specs.declared.EdgeVerdict.the-variants as edge
 use Rattle.requests.specs.declared.Command.{Command}
 use Rattle.requests.specs.declared.Command.the-variants as command
 use Rattle.requests.specs.declared.EngineRequest.{EngineRequest}
@@ -12,31 +16,110 @@ use Rattle.requests.specs.declared.EngineRequest.the-variants as engine
 use Rattle.requests.specs.declared.Request.{Request}
 use Rattle.requests.specs.declared.Request.the-variants as request
 use Rattle.checks.specs.Fields.{stateOf, serviceOf, isHardware}
-use Prim.Native.Nat.{ℕ}
+use Rattle.checks.specs.Verdicts.{verdictNumber, byEdge}
+use Rattle.checks.specs.declared.Denial.the-variants as denial
+use Rattle.checks.specs.declared.Verdict.{Verdict}
+use Rattle.checks.specs.declared.Verdict.the-variants.{Permitted, Denied}
 
--- "the record must be software's"; "the record must be the hardware's"
+-- The verdict of a record that must be software's, and of one that must be the hardware's.
 abbrev pub softwareOnly : List ℕ → Verdict
-softwareOnly r = pick (isHardware r) NotPermitted Permitted
+softwareOnly r = pick (isHardware r) (Denied denial.Owner) Permitted
 
 abbrev pub hardwareOnly : List ℕ → Verdict
-hardwareOnly r = pick (isHardware r) Permitted NotPermitted
+hardwareOnly r = pick (isHardware r) Permitted (Denied denial.Owner)
 
--- "SW2HW ..: .. the record must be software's."; "HW2SW ..: the record must be the hardware's"; RESIZE_CQ: "hardware's records
--- only"; QUERY_QP: "in any state"; the edges by their table
+-- The verdict on a move of the queue pair with this record, by its state code and service type.
+abbrev pub moveVerdict : Move → List ℕ → Verdict
+moveVerdict asked r = byEdge (judgeOf asked (stateOf r) (serviceOf r))
+
+-- SW2HW takes a record of software's; HW2SW and RESIZE_CQ take one of the hardware's; QUERY_QP takes any; an edge goes by the table of
+-- edges (01, Commands).
 abbrev pub commandPermits : Command → List ℕ → Verdict
 commandPermits (command.Sw2Hw o) r = softwareOnly r
 commandPermits (command.Hw2Sw o) r = hardwareOnly r
 commandPermits (command.ResizeCq n) r = hardwareOnly r
 commandPermits (command.QueryQp n) r = Permitted
-commandPermits (command.ModifyQp e n) r = judgeOf (move.Command e) (stateOf r) (serviceOf r)
+commandPermits (command.ModifyQp e n) r = moveVerdict (move.Command e) r
 
--- "Writes may keep RTR, RTS, SQD or SQE; .. No other engine write is permitted.": no limit to reads (docs/DECISIONS.md, 28)
+-- Writes go by the engine's edges, and reads have no limit: "No other engine write is permitted" speaks of writes (01, Engine requests;
+-- docs/DECISIONS.md, 28).
 abbrev pub enginePermits : EngineRequest → List ℕ → Verdict
 enginePermits (engine.ReadState n) r = Permitted
 enginePermits (engine.ReadNext n) r = Permitted
 enginePermits (engine.ReadAll n) r = Permitted
-enginePermits (engine.Write p s n psn) r = judgeOf (move.Engine s) (stateOf r) (serviceOf r)
+enginePermits (engine.Write p s n psn) r = moveVerdict (move.Engine s) r
 
+-- What a record with these bytes answers to a request.
 abbrev pub permissionOf : Request → List ℕ → Verdict
 permissionOf (request.Command c) r = commandPermits c r
 permissionOf (request.Engine e) r = enginePermits e r
+
+-- The same as a test: a record that has an owner must have the right one, a queue pair must permit the edge, and a read is always
+-- permitted (01, Commands; Engine requests).
+abbrev pub permitsMove : Move → List ℕ → Bool
+permitsMove asked r = permits asked (stateOf r) (serviceOf r)
+
+abbrev pub permitsCommand : Command → List ℕ → Bool
+permitsCommand (command.Sw2Hw o) r = not (isHardware r)
+permitsCommand (command.Hw2Sw o) r = isHardware r
+permitsCommand (command.ResizeCq n) r = isHardware r
+permitsCommand (command.QueryQp n) r = true
+permitsCommand (command.ModifyQp e n) r = permitsMove (move.Command e) r
+
+abbrev pub permitsEngine : EngineRequest → List ℕ → Bool
+permitsEngine (engine.ReadState n) r = true
+permitsEngine (engine.ReadNext n) r = true
+permitsEngine (engine.ReadAll n) r = true
+permitsEngine (engine.Write p s n psn) r = permitsMove (move.Engine s) r
+
+abbrev pub permitsIn : Request → List ℕ → Bool
+permitsIn (request.Command c) r = permitsCommand c r
+permitsIn (request.Engine e) r = permitsEngine e r
+
+-- A verdict has the number 0 where the test holds, and else 0x85 (01, Numbers returned, 0x85): for a record that must be software's, for
+-- one that must be the hardware's, for an edge, and so for every request.
+software-number : (b : Bool) → verdictNumber (pick b (Denied denial.Owner) Permitted) ≡ pick (not b) 0 0x85
+software-number true = refl
+software-number false = refl
+
+hardware-number : (b : Bool) → verdictNumber (pick b Permitted (Denied denial.Owner)) ≡ pick b 0 0x85
+hardware-number true = refl
+hardware-number false = refl
+
+edge-number : (b : Bool) → verdictNumber (byEdge (pick b edge.Permitted edge.NotPermitted)) ≡ pick b 0 0x85
+edge-number true = refl
+edge-number false = refl
+
+move-number : (asked : Move) (r : List ℕ) → verdictNumber (moveVerdict asked r) ≡ pick (permitsMove asked r) 0 0x85
+unfolding judgeOf
+move-number asked r = edge-number (permitsMove asked r)
+
+command-number : (c : Command) (r : List ℕ) → verdictNumber (commandPermits c r) ≡ pick (permitsCommand c r) 0 0x85
+command-number (command.Sw2Hw o) r = software-number (isHardware r)
+command-number (command.Hw2Sw o) r = hardware-number (isHardware r)
+command-number (command.ResizeCq n) r = hardware-number (isHardware r)
+command-number (command.QueryQp n) r = refl
+command-number (command.ModifyQp e n) r = move-number (move.Command e) r
+
+engine-number : (e : EngineRequest) (r : List ℕ) → verdictNumber (enginePermits e r) ≡ pick (permitsEngine e r) 0 0x85
+engine-number (engine.ReadState n) r = refl
+engine-number (engine.ReadNext n) r = refl
+engine-number (engine.ReadAll n) r = refl
+engine-number (engine.Write p s n psn) r = move-number (move.Engine s) r
+
+pub permission-number : (q : Request) (r : List ℕ) → verdictNumber (permissionOf q r) ≡ pick (permitsIn q r) 0 0x85
+permission-number (request.Command c) r = command-number c r
+permission-number (request.Engine e) r = engine-number e r
+
+number-holds : (b : Bool) → _≡_ {A = ℕ} 0 (pick b 0 0x85) → b ≡ true
+number-holds true e = refl
+number-holds false e = absurd (omega arith)
+
+-- Where the verdict is that the record permits the request, the test holds.
+pub permission-holds : (q : Request) (r : List ℕ) → permissionOf q r ≡ Permitted → permitsIn q r ≡ true
+permission-holds q r e = number-holds (permitsIn q r) (sym (ap verdictNumber e) ∙ permission-number q r)
+
+-- A verdict that is the record's, with its number.
+pub permission-told : (q : Request) (r : List ℕ) {v : Verdict} → v ≡ permissionOf q r
+    → (v ≡ permissionOf q r) × (verdictNumber v ≡ pick (permitsIn q r) 0 0x85)
+permission-told q r e = (e, ap verdictNumber e ∙ permission-number q r)

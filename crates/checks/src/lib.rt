@@ -1,27 +1,32 @@
-// What a request asks of its record and its mailbox. The lent buffers are long enough: the callers have tested
-// the lengths.
-use context::CqNumber;
-use edges::Edge;
+// What a request asks of its record. The lent record is long enough: the callers have tested its length.
+use edges::EdgeVerdict;
 use edges::Move;
-use edges::Verdict;
 use requests::Command;
 use requests::EngineRequest;
-use requests::Owned;
 use requests::Request;
 ghost use mathlib.Core.Path.{_≡_};
 ghost use Prim.Native.Nat.{_+_, _≤_};
-ghost use lib.Dec.{eqb};
 ghost use lib.ListN.{length};
+ghost use Rattle.words.specs.Choice.{pick};
 ghost use Rattle.words.specs.Parts.{part};
-ghost use Rattle.words.specs.Words.{be32};
 ghost use Rattle.context.specs.Layout.{recordSize};
-ghost use Rattle.edges.specs.Edges.{judgeOf};
-ghost use Rattle.edges.specs.States.{isService};
 ghost use Rattle.request_table.specs.Records.{recordOf};
-ghost use Rattle.request_table.specs.Mailboxes.{storedOf, edgeNeed, commandNeed, needOf};
 ghost use Rattle.checks.specs.Fields.{stateOf, serviceOf, isHardware};
-ghost use Rattle.checks.specs.Permission.{softwareOnly, hardwareOnly, commandPermits, enginePermits, permissionOf};
-ghost use Rattle.checks.specs.Content.{ownedContent, edgeContent, commandContent, contentHolds};
+ghost use Rattle.checks.specs.Verdicts.{verdictNumber, byEdge};
+ghost use Rattle.checks.specs.Permission.{softwareOnly, hardwareOnly, moveVerdict, commandPermits, enginePermits};
+ghost use Rattle.checks.specs.Permission.{permissionOf, permitsIn};
+
+// Why a record's state denies a request: the edge is not permitted, or the owner is the wrong one.
+pub enum Denial {
+    Edge,
+    Owner,
+}
+
+// What a record answers to a request.
+pub enum Verdict {
+    Permitted,
+    Denied(Denial),
+}
 
 // The state code in word 00h, bits 31:28.
 pub fn state_code(rec: &[u8]) -> u8
@@ -32,13 +37,14 @@ pub fn state_code(rec: &[u8]) -> u8
 }
 
 // The service type in word 00h, bits 23:16.
-fn service(rec: &[u8]) -> u8
+pub fn service(rec: &[u8]) -> u8
     requires { ⌜ 4 ≤ length (now rec) ⌝ }
     ensures { λ r. ⌜ r ≡ serviceOf (now (rec .entry)) ⌝ }
 {
     rec[1]
 }
 
+// Whether the hardware owns the record.
 fn is_hardware(rec: &[u8]) -> bool
     requires { ⌜ 64 ≤ length (now rec) ⌝ }
     ensures { λ r. ⌜ r ≡ isHardware (now (rec .entry)) ⌝ }
@@ -46,16 +52,18 @@ fn is_hardware(rec: &[u8]) -> bool
     rec[63] == 1
 }
 
+// For a request that takes a record of software's.
 fn software_only(rec: &[u8]) -> Verdict
     requires { ⌜ 64 ≤ length (now rec) ⌝ }
     ensures { λ r. ⌜ r ≡ softwareOnly (now (rec .entry)) ⌝ }
 {
     if is_hardware(rec) {
-        return Verdict::NotPermitted;
+        return Verdict::Denied(Denial::Owner);
     }
     Verdict::Permitted
 }
 
+// For a request that takes a record of the hardware's.
 fn hardware_only(rec: &[u8]) -> Verdict
     requires { ⌜ 64 ≤ length (now rec) ⌝ }
     ensures { λ r. ⌜ r ≡ hardwareOnly (now (rec .entry)) ⌝ }
@@ -63,16 +71,28 @@ fn hardware_only(rec: &[u8]) -> Verdict
     if is_hardware(rec) {
         return Verdict::Permitted;
     }
-    Verdict::NotPermitted
+    Verdict::Denied(Denial::Owner)
 }
 
+// The decision on an edge, as a record's verdict.
+fn by_edge(verdict: EdgeVerdict) -> Verdict
+    ensures { λ r. ⌜ r ≡ byEdge verdict ⌝ }
+{
+    match verdict {
+        EdgeVerdict::Permitted => Verdict::Permitted,
+        EdgeVerdict::NotPermitted => Verdict::Denied(Denial::Edge),
+    }
+}
+
+// Whether the queue pair with this record may make the move.
 fn move_permitted(asked: Move, rec: &[u8]) -> Verdict
     requires { ⌜ 4 ≤ length (now rec) ⌝ }
-    ensures { λ r. ⌜ r ≡ judgeOf asked (stateOf (now (rec .entry))) (serviceOf (now (rec .entry))) ⌝ }
+    ensures { λ r. ⌜ r ≡ moveVerdict asked (now (rec .entry)) ⌝ }
 {
-    edges::judge(asked, state_code(rec), service(rec))
+    by_edge(edges::judge(asked, state_code(rec), service(rec)))
 }
 
+// Whether a record's contents permit a command.
 fn command_permitted(command: Command, rec: &[u8]) -> Verdict
     requires { ⌜ 64 ≤ length (now rec) ⌝ }
     ensures { λ r. ⌜ r ≡ commandPermits command (now (rec .entry)) ⌝ }
@@ -86,6 +106,7 @@ fn command_permitted(command: Command, rec: &[u8]) -> Verdict
     }
 }
 
+// Whether a record's contents permit an engine request.
 fn engine_permitted(engine: EngineRequest, rec: &[u8]) -> Verdict
     requires { ⌜ 64 ≤ length (now rec) ⌝ }
     ensures { λ r. ⌜ r ≡ enginePermits engine (now (rec .entry)) ⌝ }
@@ -98,10 +119,11 @@ fn engine_permitted(engine: EngineRequest, rec: &[u8]) -> Verdict
     }
 }
 
-// Whether a record's contents permit a request.
+// Whether a record's contents permit a request, and if not, why.
 pub fn permission(request: Request, rec: &[u8]) -> Verdict
     requires { ⌜ 64 ≤ length (now rec) ⌝ }
-    ensures { λ r. ⌜ r ≡ permissionOf request (now (rec .entry)) ⌝ }
+    ensures { λ r. ⌜ (r ≡ permissionOf request (now (rec .entry)))
+        × (verdictNumber r ≡ pick (permitsIn request (now (rec .entry))) 0 0x85) ⌝ }
 {
     match request {
         Request::Command(command) => command_permitted(command, rec),
@@ -116,80 +138,13 @@ fn size_of(request: Request) -> usize
     context::record_size(request_table::record_of(request))
 }
 
-// Whether the record that starts at `at` of the store permits a request. The record-sized part of
-// the store is passed on to `permission`, which judges it.
+// Whether the record that starts at `at` of the store permits a request, and if not, why. The record-sized
+// part of the store is passed on to `permission`, which judges it.
 pub fn permission_at(request: Request, store: &[u8], at: usize) -> Verdict
     requires { ⌜ at + recordSize (recordOf request) ≤ length (now store) ⌝ }
-    ensures { λ r. ⌜ r ≡ permissionOf request (part at (recordSize (recordOf request)) (now (store .entry))) ⌝ }
+    ensures { λ r. ⌜ (r ≡ permissionOf request (part at (recordSize (recordOf request)) (now (store .entry))))
+        × (verdictNumber r ≡ pick (permitsIn request (part at (recordSize (recordOf request)) (now (store .entry)))) 0 0x85) ⌝ }
 {
     let end = at + size_of(request);
     permission(request, &store[at..end])
-}
-
-fn cq_content(n: CqNumber, mailbox: &[u8]) -> bool
-    requires { ⌜ 56 ≤ length (now mailbox) ⌝ }
-    ensures { λ r. ⌜ r ≡ eqb (be32 0x2c (now (mailbox .entry))) (n .0) ⌝ }
-{
-    words::read_be32(mailbox, 0x2c) == n.0
-}
-
-fn owned_content(owned: Owned, mailbox: &[u8]) -> bool
-    requires { ⌜ storedOf owned ≤ length (now mailbox) ⌝ }
-    ensures { λ r. ⌜ r ≡ ownedContent owned (now (mailbox .entry)) ⌝ }
-{
-    match owned {
-        Owned::Mpt(_) => true,
-        Owned::Eq(_) => true,
-        Owned::Cq(n) => cq_content(n, mailbox),
-    }
-}
-
-fn type_content(mailbox: &[u8]) -> bool
-    requires { ⌜ 164 ≤ length (now mailbox) ⌝ }
-    ensures { λ r. ⌜ r ≡ isService (serviceOf (now (mailbox .entry))) ⌝ }
-{
-    edges::is_service(service(mailbox))
-}
-
-fn edge_content(edge: Edge, mailbox: &[u8]) -> bool
-    requires { ⌜ edgeNeed edge ≤ length (now mailbox) ⌝ }
-    ensures { λ r. ⌜ r ≡ edgeContent edge (now (mailbox .entry)) ⌝ }
-{
-    match edge {
-        Edge::ResetToInit => type_content(mailbox),
-        Edge::InitToInit => true,
-        Edge::InitToRtr => true,
-        Edge::RtrToRts => true,
-        Edge::RtsToRts => true,
-        Edge::SqeToRts => true,
-        Edge::RtsToSqd => true,
-        Edge::SqdToSqd => true,
-        Edge::SqdToRts => true,
-        Edge::ToErr => true,
-        Edge::ToReset => true,
-    }
-}
-
-fn command_content(command: Command, mailbox: &[u8]) -> bool
-    requires { ⌜ commandNeed command ≤ length (now mailbox) ⌝ }
-    ensures { λ r. ⌜ r ≡ commandContent command (now (mailbox .entry)) ⌝ }
-{
-    match command {
-        Command::Sw2Hw(owned) => owned_content(owned, mailbox),
-        Command::Hw2Sw(_) => true,
-        Command::ResizeCq(_) => true,
-        Command::QueryQp(_) => true,
-        Command::ModifyQp(edge, _) => edge_content(edge, mailbox),
-    }
-}
-
-// Whether the needed mailbox bytes have a content that the request accepts.
-pub fn content_holds(request: Request, mailbox: &[u8]) -> bool
-    requires { ⌜ needOf request ≤ length (now mailbox) ⌝ }
-    ensures { λ r. ⌜ r ≡ contentHolds request (now (mailbox .entry)) ⌝ }
-{
-    match request {
-        Request::Command(command) => command_content(command, mailbox),
-        Request::Engine(_) => true,
-    }
 }

@@ -1,2 +1,3 @@
 -- How a command is read.
 pub mod Commands
+pub mod Reading

@@ -1,16 +1,19 @@
 // How a command is read: from its op to what is served, and from op_modifier and in_modifier to the
 // command.
-use context::CqFound;
-use context::EqFound;
 use context::Logs;
-use context::MptFound;
-use context::QpFound;
 use edges::Edge;
+use numbers::CqFound;
+use numbers::EqFound;
+use numbers::MptFound;
+use numbers::QpFound;
 use requests::Command;
 use requests::Owned;
 ghost use mathlib.Core.Path.{_≡_};
-ghost use Rattle.context.specs.Numbers.{qpOf, cqOf, eqOf, mptOf};
-ghost use Rattle.commands.specs.Commands.{readOp, edgeModifier, opModifierOf, onMpt, onEq, onCq, ownedOf, atOnce, sw2hwOf, hw2swOf, resizeOf, queryOf, modifyOf, addressed, readCommand};
+ghost use Rattle.words.specs.Choice.{pick};
+ghost use Rattle.numbers.specs.Numbers.{qpOf, cqOf, eqOf, mptOf};
+ghost use Rattle.commands.specs.Commands.{readOp, edgeModifier, opModifierOf, onMpt, onEq, onCq, ownedOf};
+ghost use Rattle.commands.specs.Commands.{atOnce, sw2hwOf, hw2swOf, resizeOf, queryOf, modifyOf, addressed, readCommand};
+ghost use Rattle.commands.specs.Commands.{isServed, opFoundNumber, commandRight, commandFoundNumber};
 
 // The tables whose records have an owner.
 pub enum Table {
@@ -52,7 +55,7 @@ pub enum OwnedFound {
 }
 
 pub fn read_op(code: u16) -> OpFound
-    ensures { λ r. ⌜ r ≡ readOp code ⌝ }
+    ensures { λ r. ⌜ (r ≡ readOp code) × (opFoundNumber r ≡ pick (isServed code) 0 2) ⌝ }
 {
     match code {
         0x07 => OpFound::Served(Op::InitHca),
@@ -117,7 +120,7 @@ fn op_modifier(op: Op) -> u8
 fn owned_mpt(logs: Logs, n: u32) -> OwnedFound
     ensures { λ r. ⌜ r ≡ onMpt (mptOf logs n) ⌝ }
 {
-    match context::mpt_number(logs, n) {
+    match numbers::mpt_number(logs, n) {
         MptFound::Number(m) => OwnedFound::Record(Owned::Mpt(m)),
         MptFound::OutOfRange => OwnedFound::OutOfRange,
     }
@@ -126,7 +129,7 @@ fn owned_mpt(logs: Logs, n: u32) -> OwnedFound
 fn owned_eq(logs: Logs, n: u32) -> OwnedFound
     ensures { λ r. ⌜ r ≡ onEq (eqOf logs n) ⌝ }
 {
-    match context::eq_number(logs, n) {
+    match numbers::eq_number(logs, n) {
         EqFound::Number(m) => OwnedFound::Record(Owned::Eq(m)),
         EqFound::OutOfRange => OwnedFound::OutOfRange,
     }
@@ -135,7 +138,7 @@ fn owned_eq(logs: Logs, n: u32) -> OwnedFound
 fn owned_cq(logs: Logs, n: u32) -> OwnedFound
     ensures { λ r. ⌜ r ≡ onCq (cqOf logs n) ⌝ }
 {
-    match context::cq_number(logs, n) {
+    match numbers::cq_number(logs, n) {
         CqFound::Number(m) => OwnedFound::Record(Owned::Cq(m)),
         CqFound::OutOfRange => OwnedFound::OutOfRange,
     }
@@ -172,7 +175,7 @@ fn hw2sw(table: Table, logs: Logs, n: u32) -> CommandFound
 fn resize(logs: Logs, n: u32) -> CommandFound
     ensures { λ r. ⌜ r ≡ resizeOf (cqOf logs n) ⌝ }
 {
-    match context::cq_number(logs, n) {
+    match numbers::cq_number(logs, n) {
         CqFound::Number(m) => CommandFound::OnRecord(Command::ResizeCq(m)),
         CqFound::OutOfRange => CommandFound::Wrong,
     }
@@ -181,7 +184,7 @@ fn resize(logs: Logs, n: u32) -> CommandFound
 fn query(logs: Logs, n: u32) -> CommandFound
     ensures { λ r. ⌜ r ≡ queryOf (qpOf logs n) ⌝ }
 {
-    match context::qp_number(logs, n) {
+    match numbers::qp_number(logs, n) {
         QpFound::Number(m) => CommandFound::OnRecord(Command::QueryQp(m)),
         QpFound::OutOfRange => CommandFound::Wrong,
     }
@@ -190,7 +193,7 @@ fn query(logs: Logs, n: u32) -> CommandFound
 fn modify(edge: Edge, logs: Logs, n: u32) -> CommandFound
     ensures { λ r. ⌜ r ≡ modifyOf edge (qpOf logs n) ⌝ }
 {
-    match context::qp_number(logs, n) {
+    match numbers::qp_number(logs, n) {
         QpFound::Number(m) => CommandFound::OnRecord(Command::ModifyQp(edge, m)),
         QpFound::OutOfRange => CommandFound::Wrong,
     }
@@ -223,7 +226,7 @@ fn on_record(op: Op, logs: Logs, n: u32) -> CommandFound
 
 // The command, or `Wrong` where op_modifier, in_modifier or index is wrong.
 pub fn read_command(op: Op, modifier: u8, n: u32, logs: Logs) -> CommandFound
-    ensures { λ r. ⌜ r ≡ readCommand logs op modifier n ⌝ }
+    ensures { λ r. ⌜ (r ≡ readCommand logs op modifier n) × (commandFoundNumber r ≡ pick (commandRight logs op modifier n) 0 3) ⌝ }
 {
     if modifier != op_modifier(op) {
         return CommandFound::Wrong;

@@ -3,12 +3,13 @@ ghost use mathlib.Core.Path.{_≡_};
 ghost use mathlib.Core.Bool.{true};
 ghost use Prim.Native.Nat.{_^_, _≤_};
 ghost use lib.Dec.{ltb};
-ghost use Rattle.context.specs.Layout.{sizeOf, kindOf, numberOf, logOf, startOf, inUse, rangesHold, fitsStore, isRecord, recordAt, recordSize, kindCode, sameRecord};
+ghost use Rattle.context.specs.Layout.{sizeOf, kindOf, numberOf, logOf, startOf, inUse, rangesHold, fitsStore};
+ghost use Rattle.context.specs.Layout.{isRecord, recordAt, recordSize, kindCode, sameRecord};
 ghost use Rattle.context.specs.Init.{initRows, initOf, initFoundNumber};
-ghost use Rattle.context.specs.Numbers.{qpOf, cqOf, eqOf, mptOf};
+ghost use Rattle.context.specs.declared.Kind.the-variants as kind;
 
 // Numbers of the four kinds of record are kept apart: each has a type of its own. One is made by
-// the check against the count (`qp_number` and the others) and then carried.
+// the check against the count (the crate `numbers`) and then carried.
 pub struct QpNumber(pub u32);
 
 pub struct CqNumber(pub u32);
@@ -44,26 +45,6 @@ pub struct Logs {
 pub enum InitFound {
     Layout(Logs),
     ShortMailbox,
-    OutOfRange,
-}
-
-pub enum QpFound {
-    Number(QpNumber),
-    OutOfRange,
-}
-
-pub enum CqFound {
-    Number(CqNumber),
-    OutOfRange,
-}
-
-pub enum EqFound {
-    Number(EqNumber),
-    OutOfRange,
-}
-
-pub enum MptFound {
-    Number(MptNumber),
     OutOfRange,
 }
 
@@ -113,49 +94,13 @@ fn log_of(logs: Logs, kind: Kind) -> u8
 
 // Whether a number is below the count with this logarithm. Every number of 32 bits is below a
 // count of 2^32 or more, so no logarithm has to be refused first.
-fn below_count(log: u8, n: u32) -> bool
+pub fn below_count(log: u8, n: u32) -> bool
     ensures { λ r. ⌜ r ≡ ltb n (2 ^ log) ⌝ }
 {
     if 32 <= log {
         return true;
     }
     (n as u64) < 1u64 << log
-}
-
-pub fn qp_number(logs: Logs, n: u32) -> QpFound
-    ensures { λ r. ⌜ r ≡ qpOf logs n ⌝ }
-{
-    if below_count(logs.qps, n) {
-        return QpFound::Number(QpNumber(n));
-    }
-    QpFound::OutOfRange
-}
-
-pub fn cq_number(logs: Logs, n: u32) -> CqFound
-    ensures { λ r. ⌜ r ≡ cqOf logs n ⌝ }
-{
-    if below_count(logs.cqs, n) {
-        return CqFound::Number(CqNumber(n));
-    }
-    CqFound::OutOfRange
-}
-
-pub fn eq_number(logs: Logs, n: u32) -> EqFound
-    ensures { λ r. ⌜ r ≡ eqOf logs n ⌝ }
-{
-    if below_count(logs.eqs, n) {
-        return EqFound::Number(EqNumber(n));
-    }
-    EqFound::OutOfRange
-}
-
-pub fn mpt_number(logs: Logs, n: u32) -> MptFound
-    ensures { λ r. ⌜ r ≡ mptOf logs n ⌝ }
-{
-    if below_count(logs.mpts, n) {
-        return MptFound::Number(MptNumber(n));
-    }
-    MptFound::OutOfRange
 }
 
 pub fn is_record(logs: Logs, rec: Record) -> bool

@@ -7,17 +7,18 @@ use Rattle.edges.specs.States.{stateCode, isState, rc}
 use Rattle.edges.specs.declared.State.{State}
 use Rattle.edges.specs.declared.State.the-variants.{Reset, Init, Rtr, Rts, Sqe, Sqd, Err}
 use Rattle.edges.specs.declared.Edge.{Edge}
-use Rattle.edges.specs.declared.Edge.the-variants.{ResetToInit, InitToInit, InitToRtr, RtrToRts, RtsToRts, SqeToRts, RtsToSqd, SqdToSqd, SqdToRts, ToErr, ToReset}
+use Rattle.edges.specs.declared.Edge.the-variants.{ResetToInit, InitToInit, InitToRtr, RtrToRts, RtsToRts, SqeToRts}
+use Rattle.edges.specs.declared.Edge.the-variants.{RtsToSqd, SqdToSqd, SqdToRts, ToErr, ToReset}
 use Rattle.edges.specs.declared.Move.{Move}
 use Rattle.edges.specs.declared.Move.the-variants.{Command, Engine}
-use Rattle.edges.specs.declared.Verdict.{Verdict}
-use Rattle.edges.specs.declared.Verdict.the-variants.{Permitted, NotPermitted}
+use Rattle.edges.specs.declared.EdgeVerdict.{EdgeVerdict}
+use Rattle.edges.specs.declared.EdgeVerdict.the-variants.{Permitted, NotPermitted}
 
--- the code is that of the state
+-- The code is that of the state.
 abbrev pub is : State → ℕ → Bool
 is s code = eqb code (stateCode s)
 
--- The table of edges, column "From".
+-- From where each edge starts; the last two start at every state but the one that they lead to (01, Commands, the table of edges).
 abbrev pub fromOf : Edge → ℕ → Bool
 fromOf ResetToInit code = is Reset code
 fromOf InitToInit code = is Init code
@@ -28,11 +29,10 @@ fromOf SqeToRts code = is Sqe code
 fromOf RtsToSqd code = is Rts code
 fromOf SqdToSqd code = is Sqd code
 fromOf SqdToRts code = is Sqd code
--- "any but ERR", "any but RESET"
 fromOf ToErr code = not (is Err code)
 fromOf ToReset code = not (is Reset code)
 
--- The table of edges, column "To".
+-- Where each edge leads (01, Commands, the table of edges).
 abbrev pub toOf : Edge → State
 toOf ResetToInit = Init
 toOf InitToInit = Init
@@ -46,42 +46,44 @@ toOf SqdToRts = Rts
 toOf ToErr = Err
 toOf ToReset = Reset
 
--- The table of edges, and "A state code above 6 .. permits no edge."
+-- A command's edge is permitted where it starts, and from no code that is no state's (01, The context store).
 unfoldable pub permitsEdge : Edge → ℕ → Bool
 permitsEdge edge code = both (isState code) (fromOf edge code)
 
--- "RTR, RTS, SQD or SQE"
+-- The four states that an engine write may keep, or leave for ERR (01, Engine requests).
 unfoldable pub isActive : ℕ → Bool
 isActive code = either (is Rtr code) (either (is Rts code) (either (is Sqd code) (is Sqe code)))
 
--- "Writes may keep RTR, RTS, SQD or SQE"
+-- An engine write keeps one of the four (01, Engine requests).
 unfoldable pub writeKeeps : State → ℕ → Bool
 writeKeeps to code = both (isActive code) (is to code)
 
--- "go from one of these to ERR"
+-- An engine write goes from one of the four to ERR (01, Engine requests).
 unfoldable pub writeFails : State → ℕ → Bool
 writeFails to code = both (isActive code) (is Err (stateCode to))
 
--- "go from RTS or SQD to SQE if the type isn't RC"
+-- The two states that an engine write may leave for SQE (01, Engine requests).
 unfoldable pub isSending : ℕ → Bool
 isSending code = either (is Rts code) (is Sqd code)
 
+-- An engine write goes from one of the two to SQE, for every type but RC (01, Engine requests).
 unfoldable pub writeStops : State → ℕ → ℕ → Bool
 writeStops to code service = both (isSending code) (both (is Sqe (stateCode to)) (not (eqb service rc)))
 
--- "No other engine write is permitted."
+-- An engine write is permitted in these three ways only (01, Engine requests).
 unfoldable pub permitsWrite : State → ℕ → ℕ → Bool
 permitsWrite to code service = either (writeKeeps to code) (either (writeFails to code) (writeStops to code service))
 
--- The decision: what is asked, the record's state code and its service type.
+-- Whether a move is permitted, from the record's state code and its service type.
 abbrev pub permits : Move → ℕ → ℕ → Bool
 permits (Command edge) code service = permitsEdge edge code
 permits (Engine to) code service = permitsWrite to code service
 
-unfoldable pub judgeOf : Move → ℕ → ℕ → Verdict
+-- The decision, as a verdict.
+unfoldable pub judgeOf : Move → ℕ → ℕ → EdgeVerdict
 judgeOf asked code service = pick (permits asked code service) Permitted NotPermitted
 
--- 01's number for each verdict: "0 means done or accepted"; 0x85: "edge not permitted, or wrong owner"
-abbrev pub verdictNumber : Verdict → ℕ
-verdictNumber Permitted = 0
-verdictNumber NotPermitted = 0x85
+-- The number of each verdict (01, Numbers returned, 0x85).
+abbrev pub edgeVerdictNumber : EdgeVerdict → ℕ
+edgeVerdictNumber Permitted = 0
+edgeVerdictNumber NotPermitted = 0x85

@@ -1,12 +1,12 @@
--- Document 01, "The context store": states and service types, as codes in word 00h of a queue pair's record.
+-- The states and service types of a queue pair, as codes in word 00h of its record (01, The context store).
 use mathlib.Core.Bool.{Bool}
-use Prim.Native.Nat.{ℕ}
-use lib.Dec.{eqb, leb}
+use Prim.Native.Nat.{ℕ, _<_}
+use lib.Dec.{eqb, leb, lit<}
 use Rattle.words.specs.Choice.{either}
 use Rattle.edges.specs.declared.State.{State}
 use Rattle.edges.specs.declared.State.the-variants.{Reset, Init, Rtr, Rts, Sqe, Sqd, Err}
 
--- "States: RESET 0, INIT 1, RTR 2, RTS 3, SQE 4, SQD 5, ERR 6."
+-- The code of each state (01, The context store).
 abbrev pub stateCode : State → ℕ
 stateCode Reset = 0
 stateCode Init = 1
@@ -16,11 +16,11 @@ stateCode Sqe = 4
 stateCode Sqd = 5
 stateCode Err = 6
 
--- "A state code above 6, found in lent memory, is answered as it stands and permits no edge."
+-- Codes above 6 are no state's: a record may hold one, and no edge starts there (01, The context store).
 abbrev pub isState : ℕ → Bool
 isState code = leb code 6
 
--- "Types: RC 0, UC 1, UD 3."
+-- The service types: reliable connection, unreliable connection, unreliable datagram (01, The context store).
 abbrev pub rc : ℕ
 rc = 0
 
@@ -30,6 +30,16 @@ uc = 1
 abbrev pub ud : ℕ
 ud = 3
 
--- "0x19 accepts types 0, 1 and 3 only."
+-- The types that RESET to INIT accepts (01, Commands).
 unfoldable pub isService : ℕ → Bool
 isService t = either (eqb t rc) (either (eqb t uc) (eqb t ud))
+
+-- A code is below 7, so it fits the four bits that a record has for it.
+pub stateCode-small : (s : State) → stateCode s < 7
+stateCode-small Reset = lit< tt
+stateCode-small Init = lit< tt
+stateCode-small Rtr = lit< tt
+stateCode-small Rts = lit< tt
+stateCode-small Sqe = lit< tt
+stateCode-small Sqd = lit< tt
+stateCode-small Err = lit< tt

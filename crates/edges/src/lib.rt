@@ -2,8 +2,10 @@
 ghost use mathlib.Core.Path.{_≡_};
 ghost use Rattle.words.specs.Choice.{pick};
 ghost use Rattle.edges.specs.States.{stateCode, isService};
-ghost use Rattle.edges.specs.Edges.{toOf, fromOf, permitsEdge, isActive, isSending, writeKeeps, writeFails, writeStops, permitsWrite, permits, judgeOf, verdictNumber};
+ghost use Rattle.edges.specs.Edges.{toOf, fromOf, permitsEdge, isActive, isSending, writeKeeps, writeFails, writeStops};
+ghost use Rattle.edges.specs.Edges.{permitsWrite, permits, judgeOf, edgeVerdictNumber};
 
+// The states of a queue pair.
 pub enum State {
     Reset,
     Init,
@@ -35,11 +37,13 @@ pub enum Move {
     Engine(State),
 }
 
-pub enum Verdict {
+// Whether a move is permitted.
+pub enum EdgeVerdict {
     Permitted,
     NotPermitted,
 }
 
+// The code of a state, as a record has it.
 pub fn state_code(state: State) -> u8
     ensures { λ r. ⌜ r ≡ stateCode state ⌝ }
 {
@@ -105,6 +109,7 @@ fn starts_at(edge: Edge, code: u8) -> bool
     }
 }
 
+// Whether a command may move a queue pair along an edge from the state with this code: from no code above 6.
 fn edge_permitted(edge: Edge, code: u8) -> bool
     ensures { λ r. ⌜ r ≡ permitsEdge edge code ⌝ }
 {
@@ -130,6 +135,7 @@ fn is_active(code: u8) -> bool
     code == 4
 }
 
+// Whether an engine write keeps the state, one of the four.
 fn keeps(to: State, code: u8) -> bool
     ensures { λ r. ⌜ r ≡ writeKeeps to code ⌝ }
 {
@@ -139,6 +145,7 @@ fn keeps(to: State, code: u8) -> bool
     code == state_code(to)
 }
 
+// Whether an engine write goes from one of the four to ERR.
 fn fails(to: State, code: u8) -> bool
     ensures { λ r. ⌜ r ≡ writeFails to code ⌝ }
 {
@@ -148,6 +155,7 @@ fn fails(to: State, code: u8) -> bool
     state_code(to) == 6
 }
 
+// Whether the code is that of RTS or SQD.
 fn is_sending(code: u8) -> bool
     ensures { λ r. ⌜ r ≡ isSending code ⌝ }
 {
@@ -170,6 +178,7 @@ fn stops(to: State, code: u8, service: u8) -> bool
     service != 0
 }
 
+// Whether an engine write may leave the state `to`.
 fn write_permitted(to: State, code: u8, service: u8) -> bool
     ensures { λ r. ⌜ r ≡ permitsWrite to code service ⌝ }
 {
@@ -182,6 +191,7 @@ fn write_permitted(to: State, code: u8, service: u8) -> bool
     stops(to, code, service)
 }
 
+// Whether the move is permitted.
 fn permitted(asked: Move, code: u8, service: u8) -> bool
     ensures { λ r. ⌜ r ≡ permits asked code service ⌝ }
 {
@@ -192,11 +202,11 @@ fn permitted(asked: Move, code: u8, service: u8) -> bool
 }
 
 // The decision, from the record's state code and service type.
-pub fn judge(asked: Move, code: u8, service: u8) -> Verdict
-    ensures { λ r. ⌜ (r ≡ judgeOf asked code service) × (verdictNumber r ≡ pick (permits asked code service) 0 0x85) ⌝ }
+pub fn judge(asked: Move, code: u8, service: u8) -> EdgeVerdict
+    ensures { λ r. ⌜ (r ≡ judgeOf asked code service) × (edgeVerdictNumber r ≡ pick (permits asked code service) 0 0x85) ⌝ }
 {
     if permitted(asked, code, service) {
-        return Verdict::Permitted;
+        return EdgeVerdict::Permitted;
     }
-    Verdict::NotPermitted
+    EdgeVerdict::NotPermitted
 }

@@ -1,16 +1,21 @@
--- Document 01, "Engine requests": from number, index, PSN and state to the request.
+-- From number, index, PSN and state to the engine request (01, Engine requests).
+use mathlib.Core.Bool.{Bool, true}
 use Prim.Native.Nat.{ℕ}
-use lib.Dec.{eqb}
-use Rattle.words.specs.Choice.{pick}
-use Rattle.context.specs.Numbers.{qpOf}
+use lib.Dec.{eqb, ltb, leb}
+use Rattle.words.specs.Choice.{pick, both, within}
+use Rattle.context.specs.Layout.{countOf}
+use Rattle.numbers.specs.Numbers.{qpOf}
+use Rattle.context.specs.declared.Kind.the-variants as kind
 use Rattle.context.specs.declared.Logs.{Logs}
 use Rattle.context.specs.declared.QpNumber.{QpNumber}
-use Rattle.context.specs.declared.QpFound.{QpFound}
-use Rattle.context.specs.declared.QpFound.the-variants as qpFound
+use Rattle.numbers.specs.declared.QpFound.{QpFound}
+use Rattle.numbers.specs.declared.QpFound.the-variants as qpFound
+use Rattle.edges.specs.declared.State.{State}
 use Rattle.edges.specs.declared.State.the-variants.{Reset, Init, Rtr, Rts, Sqe, Sqd, Err}
 use Rattle.requests.specs.Psns.{psnFits}
 use Rattle.requests.specs.declared.PsnField.{PsnField}
 use Rattle.requests.specs.declared.PsnField.the-variants.{NextSend, LastAcked, Expected}
+use Rattle.requests.specs.declared.EngineRequest.{EngineRequest}
 use Rattle.requests.specs.declared.EngineRequest.the-variants as engine
 use Rattle.engines.specs.declared.EngineNumber.{EngineNumber}
 use Rattle.engines.specs.declared.EngineNumber.the-variants as number
@@ -21,8 +26,7 @@ use Rattle.engines.specs.declared.StateFound.the-variants as stateFound
 use Rattle.engines.specs.declared.EngineFound.{EngineFound}
 use Rattle.engines.specs.declared.EngineFound.the-variants.{OnRecord, Wrong}
 
--- "Numbered here: 1 read state; 2 read next PSN and state; 3 write next PSN and state; 4 write last acked PSN and state;
--- 5 write expected PSN and state; 6 read all."
+-- What each number asks for: 1, 2 and 6 read, 3 to 5 write a PSN and the state (01, Engine requests).
 unfoldable pub readNumber : ℕ → NumberFound
 readNumber n =
     pick (eqb n 1) (Served number.ReadState)
@@ -33,27 +37,29 @@ readNumber n =
     (pick (eqb n 6) (Served number.ReadAll)
     NotServed)))))
 
--- "state above 6"
+-- The state of a code up to 6 (01, The context store). A larger code is no state (01, Numbers returned, 3).
+abbrev pub stateAt : ℕ → State
+stateAt code =
+    pick (eqb code 0) Reset
+    (pick (eqb code 1) Init
+    (pick (eqb code 2) Rtr
+    (pick (eqb code 3) Rts
+    (pick (eqb code 4) Sqe
+    (pick (eqb code 5) Sqd
+    Err)))))
+
 unfoldable pub stateFrom : ℕ → StateFound
-stateFrom code =
-    pick (eqb code 0) (stateFound.State Reset)
-    (pick (eqb code 1) (stateFound.State Init)
-    (pick (eqb code 2) (stateFound.State Rtr)
-    (pick (eqb code 3) (stateFound.State Rts)
-    (pick (eqb code 4) (stateFound.State Sqe)
-    (pick (eqb code 5) (stateFound.State Sqd)
-    (pick (eqb code 6) (stateFound.State Err)
-    stateFound.OutOfRange))))))
+stateFrom code = pick (leb code 6) (stateFound.State (stateAt code)) stateFound.OutOfRange
 
 abbrev pub writeFound : PsnField → QpNumber → ℕ → StateFound → EngineFound
 writeFound p n psn (stateFound.State s) = OnRecord (engine.Write p s n psn)
 writeFound p n psn stateFound.OutOfRange = Wrong
 
--- "in requests 3 to 5, PSN above 0xffffff or state above 6"
+-- A write needs a PSN of 24 bits and a state (01, Numbers returned, 3).
 abbrev pub engineWriteOf : PsnField → QpNumber → ℕ → StateFound → EngineFound
 engineWriteOf p n psn s = pick (psnFits psn) (writeFound p n psn s) Wrong
 
--- "A field that a request does not use is not looked at."
+-- A read has no use for PSN and state, and does not look at them (01, Engine requests).
 abbrev pub engineOn : EngineNumber → QpNumber → ℕ → ℕ → EngineFound
 engineOn number.ReadState n psn code = OnRecord (engine.ReadState n)
 engineOn number.ReadNext n psn code = OnRecord (engine.ReadNext n)
@@ -64,6 +70,38 @@ abbrev pub engineAt : EngineNumber → QpFound → ℕ → ℕ → EngineFound
 engineAt k (qpFound.Number n) psn code = engineOn k n psn code
 engineAt k qpFound.OutOfRange psn code = Wrong
 
--- the index is a queue pair's number
+-- The index is a queue pair's number.
 unfoldable pub readEngine : Logs → EngineNumber → ℕ → ℕ → ℕ → EngineFound
 readEngine g k index psn code = engineAt k (qpOf g index) psn code
+
+-- 01's number for each answer: 2 is that of a request that is not served, 3 that of a wrong index, PSN or state
+-- (01, Numbers returned).
+abbrev pub numberFoundNumber : NumberFound → ℕ
+numberFoundNumber (Served k) = 0
+numberFoundNumber NotServed = 2
+
+abbrev pub engineFoundNumber : EngineFound → ℕ
+engineFoundNumber (OnRecord r) = 0
+engineFoundNumber Wrong = 3
+
+-- The requests are numbered 1 to 6 (01, Engine requests).
+unfoldable pub isNumbered : ℕ → Bool
+isNumbered n = within 1 6 n
+
+-- A request is right if its index is below the count of queue pairs and, in a write, PSN and state are not past their ranges
+-- (01, Engine requests; Numbers returned, 3).
+abbrev pub fieldsRight : EngineNumber → ℕ → ℕ → Bool
+fieldsRight number.ReadState psn code = true
+fieldsRight number.ReadNext psn code = true
+fieldsRight number.ReadAll psn code = true
+fieldsRight (number.Write p) psn code = both (leb psn 0xffffff) (leb code 6)
+
+unfoldable pub engineRight : Logs → EngineNumber → ℕ → ℕ → ℕ → Bool
+engineRight g k index psn code = both (ltb index (countOf g kind.Qp)) (fieldsRight k psn code)
+
+-- What a request asks for on queue pair n.
+abbrev pub requestOn : EngineNumber → ℕ → ℕ → ℕ → EngineRequest
+requestOn number.ReadState n psn code = engine.ReadState (record { 0 = n })
+requestOn number.ReadNext n psn code = engine.ReadNext (record { 0 = n })
+requestOn number.ReadAll n psn code = engine.ReadAll (record { 0 = n })
+requestOn (number.Write p) n psn code = engine.Write p (stateAt code) (record { 0 = n }) psn

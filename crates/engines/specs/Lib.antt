@@ -1,2 +1,3 @@
 -- How an engine request is read.
 pub mod Engines
+pub mod Reading

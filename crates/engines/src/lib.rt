@@ -1,13 +1,15 @@
 // How an engine request is read: from its number to what is served, and from index, PSN and state to
 // the request.
 use context::Logs;
-use context::QpFound;
 use context::QpNumber;
 use edges::State;
+use numbers::QpFound;
 use requests::EngineRequest;
 use requests::PsnField;
 ghost use mathlib.Core.Path.{_≡_};
+ghost use Rattle.words.specs.Choice.{pick};
 ghost use Rattle.engines.specs.Engines.{readNumber, stateFrom, engineWriteOf, engineOn, readEngine};
+ghost use Rattle.engines.specs.Engines.{isNumbered, numberFoundNumber, engineRight, engineFoundNumber};
 
 // The engine requests' numbers that are served.
 pub enum EngineNumber {
@@ -33,7 +35,7 @@ pub enum EngineFound {
 }
 
 pub fn read_number(number: u32) -> NumberFound
-    ensures { λ r. ⌜ r ≡ readNumber number ⌝ }
+    ensures { λ r. ⌜ (r ≡ readNumber number) × (numberFoundNumber r ≡ pick (isNumbered number) 0 2) ⌝ }
 {
     match number {
         1 => NumberFound::Served(EngineNumber::ReadState),
@@ -87,9 +89,10 @@ fn engine_on(number: EngineNumber, n: QpNumber, psn: u32, code: u8) -> EngineFou
 // The engine request, or `Wrong` where index, PSN or state is wrong. Reads do not look at PSN and
 // state.
 pub fn read_engine(number: EngineNumber, index: u32, psn: u32, code: u8, logs: Logs) -> EngineFound
-    ensures { λ r. ⌜ r ≡ readEngine logs number index psn code ⌝ }
+    ensures { λ r. ⌜ (r ≡ readEngine logs number index psn code)
+        × (engineFoundNumber r ≡ pick (engineRight logs number index psn code) 0 3) ⌝ }
 {
-    match context::qp_number(logs, index) {
+    match numbers::qp_number(logs, index) {
         QpFound::Number(n) => engine_on(number, n, psn, code),
         QpFound::OutOfRange => EngineFound::Wrong,
     }

@@ -6,13 +6,13 @@ use context::Logs;
 use context::MptNumber;
 use context::QpNumber;
 use context::Record;
+use edges::EdgeVerdict;
 use edges::Move;
 use edges::State;
-use edges::Verdict;
 use hcr::ReadAnswer;
 ghost use mathlib.Core.Path.{_≡_};
 ghost use Rattle.context.specs.Init.{initFoundNumber};
-ghost use Rattle.edges.specs.Edges.{verdictNumber};
+ghost use Rattle.edges.specs.Edges.{edgeVerdictNumber};
 ghost use Rattle.hcr.specs.Register.{readAnswerNumber};
 
 // The bytes that the records with these logarithms take.
@@ -64,12 +64,12 @@ fn read_number(answer: ReadAnswer) -> u64
     }
 }
 
-fn verdict_number(verdict: Verdict) -> u64
-    ensures { λ r. ⌜ r ≡ verdictNumber verdict ⌝ }
+fn verdict_number(verdict: EdgeVerdict) -> u64
+    ensures { λ r. ⌜ r ≡ edgeVerdictNumber verdict ⌝ }
 {
     match verdict {
-        Verdict::Permitted => 0,
-        Verdict::NotPermitted => 0x85,
+        EdgeVerdict::Permitted => 0,
+        EdgeVerdict::NotPermitted => 0x85,
     }
 }
 

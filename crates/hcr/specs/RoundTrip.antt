@@ -1,4 +1,4 @@
--- "Writing a command and reading it gives the command; reading well-formed bytes and writing gives the bytes."
+-- Reading undoes writing, and writing undoes reading of well-formed bytes (01, The command register).
 use mathlib.Core.Path.{_≡_, refl, sym, _∙_, ap}
 use mathlib.Core.Bool.{Bool, true}
 use mathlib.Core.List.{List}
@@ -14,8 +14,11 @@ use Rattle.words.specs.Words.{bits, AreBytes, le32}
 use Rattle.hcr.specs.declared.HcrCommand.{HcrCommand}
 use Rattle.hcr.specs.declared.ReadAnswer.the-variants as reads
 use Rattle.hcr.specs.declared.WriteAnswer.the-variants as writes
-use Rattle.hcr.specs.Register.{bit, paramAt, commandOf, wellFormed18, wellFormed, readRows, readOf, word18, wordsOf, registerOf, writeOf, writtenOf}
-use Rattle.hcr.specs.Fields.{bit-small, bit-tested, tested-bit, bit-lt, above}
+use Rattle.hcr.specs.Register.{paramAt, commandOf, wellFormed18, wellFormed, readRows, readOf}
+use Rattle.hcr.specs.Register.{word14, word18, wordsOf, registerOf, writeOf, writtenOf}
+use Rattle.hcr.specs.Fields.{bit-tested, tested-bit, bit-lt, above}
+use Rattle.hcr.specs.Word18.{event-written, op-modifier-written, op-written, formed-written, word-written}
+use Rattle.hcr.specs.Word18.{token-written, below-token-written}
 use Rattle.hcr.specs.Writing.{answers-done}
 use Rattle.hcr.specs.WordList.{length-registerOf, word-read, wordsAt, le32-small, words-back}
 
@@ -27,55 +30,6 @@ pub record Fits (c : HcrCommand) : Type 0 where
   pub token : c .token < 2 ^ 16
   pub op-modifier : c .«op_modifier» < 2 ^ 8
   pub op : c .op < 2 ^ 16
-
--- Each field of word 18h is found where it was put, and the rest of the word is as a well-formed one has it.
-module _ (e : Bool) (m o : ℕ) (hm : m < 2 ^ 8) (ho : o ≤ 0xfff) where
-  small : bit e < 2
-  small = bit-small e
-
-  op-back : bits 11 0 (word18 e m o) ≡ o
-  unfolding bits word18
-  op-back = omega (arith, small)
-
-  op-modifier-back : bits 19 12 (word18 e m o) ≡ m
-  unfolding bits word18
-  op-modifier-back = omega (arith, small)
-
-  event-bit : bits 22 22 (word18 e m o) ≡ bit e
-  unfolding bits word18
-  event-bit = omega (arith, small)
-
-  event-back : eqb (bits 22 22 (word18 e m o)) 1 ≡ e
-  event-back = ap (λ (x : ℕ). eqb x 1) event-bit ∙ bit-tested e
-
-  go-back : bits 23 23 (word18 e m o) ≡ 1
-  unfolding bits word18
-  go-back = omega (arith, small)
-
-  status-back : bits 31 24 (word18 e m o) ≡ 0
-  unfolding bits word18
-  status-back = omega (arith, small)
-
-  reserved-back : bits 21 20 (word18 e m o) ≡ 0
-  unfolding bits word18
-  reserved-back = omega (arith, small)
-
-  formed-back : wellFormed18 (word18 e m o) ≡ true
-  unfolding wellFormed18
-  formed-back = both-yes _ _ (eq-eqb _ _ go-back) (both-yes _ _ (eq-eqb _ _ status-back) (eq-eqb _ _ reserved-back))
-
-  word-fits : word18 e m o < 2 ^ 32
-  unfolding word18
-  word-fits = omega (arith, small)
-
--- The token is found in word 14h, and nothing below it.
-token-back : (t : ℕ) → t < 2 ^ 16 → bits 31 16 (t * 2 ^ 16) ≡ t
-unfolding bits
-token-back t h = omega arith
-
-below-token-back : (t : ℕ) → bits 15 0 (t * 2 ^ 16) ≡ 0
-unfolding bits
-below-token-back t = omega arith
 
 -- Writing a command and reading it.
 module _ (c : HcrCommand) (h : List ℕ) (fits : Fits c) (low : c .op ≤ 0xfff) where
@@ -98,13 +52,13 @@ module _ (c : HcrCommand) (h : List ℕ) (fits : Fits c) (low : c .op ≤ 0xfff)
   unfolding paramAt wordsOf
   out-param-back = rw (word 3 (lit< tt) (omega (arith, fits)), word 4 (lit< tt) (omega (arith, fits))) (div-add-mod' _ _)
 
-  word-14 : le32 0x14 after ≡ c .token * 2 ^ 16
+  word-14 : le32 0x14 after ≡ word14 (c .token)
   unfolding wordsOf
   word-14 = word 5 (lit< tt) (omega (arith, fits))
 
   word-18 : le32 0x18 after ≡ word18 (c .event) (c .«op_modifier») (c .op)
   unfolding wordsOf
-  word-18 = word 6 (lit< tt) (word-fits (c .event) (c .«op_modifier») (c .op) (fits .op-modifier) low)
+  word-18 = word 6 (lit< tt) (word-written (c .event) (c .«op_modifier») (c .op) _ (fits .op-modifier) low refl)
 
   command-back : commandOf after ≡ c
   unfolding commandOf
@@ -120,25 +74,28 @@ module _ (c : HcrCommand) (h : List ℕ) (fits : Fits c) (low : c .op ≤ 0xfff)
       }
     where
       token-found : bits 31 16 (le32 0x14 after) ≡ c .token
-      token-found = ap (bits 31 16) word-14 ∙ token-back (c .token) (fits .token)
+      token-found = token-written (c .token) _ word-14 (fits .token)
 
       event-found : eqb (bits 22 22 (le32 0x18 after)) 1 ≡ c .event
-      event-found = ap (λ (x : ℕ). eqb (bits 22 22 x) 1) word-18 ∙ event-back (c .event) (c .«op_modifier») (c .op) (fits .op-modifier) low
+      event-found =
+          ap (λ (x : ℕ). eqb x 1) (event-written (c .event) (c .«op_modifier») (c .op) _ (fits .op-modifier) low word-18)
+          ∙ bit-tested (c .event)
 
       op-modifier-found : bits 19 12 (le32 0x18 after) ≡ c .«op_modifier»
-      op-modifier-found = ap (bits 19 12) word-18 ∙ op-modifier-back (c .event) (c .«op_modifier») (c .op) (fits .op-modifier) low
+      op-modifier-found = op-modifier-written (c .event) (c .«op_modifier») (c .op) _ (fits .op-modifier) low word-18
 
       op-found : bits 11 0 (le32 0x18 after) ≡ c .op
-      op-found = ap (bits 11 0) word-18 ∙ op-back (c .event) (c .«op_modifier») (c .op) (fits .op-modifier) low
+      op-found = op-written (c .event) (c .«op_modifier») (c .op) _ (fits .op-modifier) low word-18
 
   formed : wellFormed after ≡ true
   unfolding wellFormed
   formed =
-      both-yes _ _ (ap wellFormed18 word-18 ∙ formed-back (c .event) (c .«op_modifier») (c .op) (fits .op-modifier) low)
-      (eq-eqb _ _ (ap (bits 15 0) word-14 ∙ below-token-back (c .token)))
+      both-yes _ _ (formed-written (c .event) (c .«op_modifier») (c .op) _ (fits .op-modifier) low word-18)
+      (eq-eqb _ _ (below-token-written (c .token) _ word-14))
 
 -- An op that the register holds is accepted by bytes that are long enough; such bytes, well formed, are read.
-pub accepted : (c : HcrCommand) (h : List ℕ) → 28 ≤ length h → c .op ≤ 0xfff → (writeOf c h ≡ writes.Done) × (writtenOf c h ≡ splice 0 (registerOf c) h)
+pub accepted : (c : HcrCommand) (h : List ℕ) → 28 ≤ length h → c .op ≤ 0xfff
+    → (writeOf c h ≡ writes.Done) × (writtenOf c h ≡ splice 0 (registerOf c) h)
 accepted c h p q =
     let a = answers-done c h (splice 0 (registerOf c) h) p q refl in
     (sym (a .0), sym (a .2))
@@ -147,18 +104,24 @@ pub read-formed : (h : List ℕ) → 28 ≤ length h → wellFormed h ≡ true �
 unfolding readRows readOf
 read-formed h p f = rw (le-ltb (length h) 28 p, f)
 
--- "Writing a command and reading it gives the command".
-pub write-read : (c : HcrCommand) (h : List ℕ) → Fits c → c .op ≤ 0xfff → 28 ≤ length h → (writeOf c h ≡ writes.Done) × (readOf (writtenOf c h) ≡ reads.Command c)
+-- A command that is written and read is the command.
+pub write-read : (c : HcrCommand) (h : List ℕ) → Fits c → c .op ≤ 0xfff → 28 ≤ length h
+    → (writeOf c h ≡ writes.Done) × (readOf (writtenOf c h) ≡ reads.Command c)
 write-read c h fits low long =
-    let a = accepted c h long low in
-    (a .0, ap readOf (a .1) ∙ read-formed (splice 0 (registerOf c) h) still (formed c h fits low) ∙ ap reads.Command (command-back c h fits low))
+    let a = accepted c h long low in (
+      a .0,
+      ap readOf (a .1)
+          ∙ read-formed (splice 0 (registerOf c) h) still (formed c h fits low)
+          ∙ ap reads.Command (command-back c h fits low),
+    )
   where
     still : 28 ≤ length (splice 0 (registerOf c) h)
     still = omega (arith, length-splice 0 (registerOf c) h (omega (arith, length-registerOf c)))
 
 -- Word 18h, well formed, is put together again from its fields: x is the word above each of them.
 from-fields : (w x12 x20 x22 x23 x24 x32 status go e reserved m o : ℕ)
-    → w ≡ x12 * 2 ^ 12 + o → x12 ≡ x20 * 2 ^ 8 + m → x20 ≡ x22 * 2 ^ 2 + reserved → x22 ≡ x23 * 2 + e → x23 ≡ x24 * 2 + go → x24 ≡ x32 * 2 ^ 8 + status
+    → w ≡ x12 * 2 ^ 12 + o → x12 ≡ x20 * 2 ^ 8 + m → x20 ≡ x22 * 2 ^ 2 + reserved
+    → x22 ≡ x23 * 2 + e → x23 ≡ x24 * 2 + go → x24 ≡ x32 * 2 ^ 8 + status
     → x32 ≡ 0 → status ≡ 0 → go ≡ 1 → reserved ≡ 0 → 1 * 2 ^ 23 + e * 2 ^ 22 + m * 2 ^ 12 + o ≡ w
 from-fields w x12 x20 x22 x23 x24 x32 status go e reserved m o e₀ e₁₂ e₂₀ e₂₂ e₂₃ e₂₄ e₃₂ p q r = omega arith
 
@@ -206,7 +169,8 @@ module _ (h : List ℕ) (bytes : AreBytes h) (long : 28 ≤ length h) (formed-h 
         low-again 0 h bytes (omega arith),
         high-again 12 h bytes (omega arith),
         low-again 12 h bytes (omega arith),
-        token-again (le32 0x14 h) (le32-small 20 h (omega arith) bytes) (eqb-true _ _ (both-right (wellFormed18 (le32 0x18 h)) _ formed-h)),
+        token-again (le32 0x14 h) (le32-small 20 h (omega arith) bytes)
+            (eqb-true _ _ (both-right (wellFormed18 (le32 0x18 h)) _ formed-h)),
         word-again (le32 0x18 h) (le32-small 24 h long bytes) (both-left _ (eqb (bits 15 0 (le32 0x14 h)) 0) formed-h),
       )
 
@@ -219,9 +183,10 @@ op-again : (h : List ℕ) → commandOf h .op ≤ 0xfff
 unfolding commandOf bits
 op-again h = omega arith
 
--- "reading well-formed bytes and writing gives the bytes": the 28 bytes that were read, at the front of any buffer
+-- Well-formed bytes that are read and written are the 28 bytes that were read, at the front of any buffer.
 pub read-write : (h out : List ℕ) → AreBytes h → 28 ≤ length h → 28 ≤ length out → wellFormed h ≡ true
-    → (readOf h ≡ reads.Command (commandOf h)) × (writeOf (commandOf h) out ≡ writes.Done) × (writtenOf (commandOf h) out ≡ splice 0 (part 0 28 h) out)
+    → (readOf h ≡ reads.Command (commandOf h)) × (writeOf (commandOf h) out ≡ writes.Done)
+    × (writtenOf (commandOf h) out ≡ splice 0 (part 0 28 h) out)
 read-write h out bytes long room f =
     let a = accepted (commandOf h) out room (op-again h) in
     (read-formed h long f, a .0, a .1 ∙ ap (λ (r : List ℕ). splice 0 r out) (register-again h bytes long f))

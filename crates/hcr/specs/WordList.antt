@@ -15,7 +15,8 @@ use Rattle.hcr.specs.declared.HcrCommand.{HcrCommand}
 use Rattle.hcr.specs.Register.{leWords, wordsOf, registerOf}
 
 -- What is put right behind something that was put there is put there with it.
-pub splice-more : (at : ℕ) (xs ys l : List ℕ) → at + length xs ≤ length l → splice (at + length xs) ys (splice at xs l) ≡ splice at (xs ++ ys) l
+pub splice-more : (at : ℕ) (xs ys l : List ℕ) → at + length xs ≤ length l
+    → splice (at + length xs) ys (splice at xs l) ≡ splice at (xs ++ ys) l
 unfolding splice
 splice-more at xs ys l h = rw (first, rest) (simp (append-assoc, length-append, add-assoc))
   where
@@ -43,7 +44,9 @@ length-registerOf c = length-leWords (wordsOf c)
 pub append-leWords : (us vs : List ℕ) → leWords (us ++ vs) ≡ leWords us ++ leWords vs
 unfolding leWords
 append-leWords [] vs = refl
-append-leWords (w ∷ us) vs = ap (λ (l : List ℕ). leBytes 4 w ++ l) (append-leWords us vs) ∙ sym (append-assoc (leBytes 4 w) (leWords us) (leWords vs))
+append-leWords (w ∷ us) vs =
+    ap (λ (l : List ℕ). leBytes 4 w ++ l) (append-leWords us vs)
+    ∙ sym (append-assoc (leBytes 4 w) (leWords us) (leWords vs))
 
 -- One word.
 pub one-word : (w : ℕ) → leBytes 4 w ≡ leWords (w ∷ [])
@@ -64,10 +67,13 @@ part-mid n k xs ys zs e f = rw drop-at (take-at ys zs k f)
 -- A word that was written with others at the front of a list is read there.
 between : (us : List ℕ) (w : ℕ) (vs l : List ℕ) → w < 2 ^ 32 → le32 (4 * length us) (splice 0 (leWords (us ++ w ∷ vs)) l) ≡ w
 unfolding le32 splice leWords
-between us w vs l h = ap leValue (ap (part (4 * length us) 4) spread ∙ part-mid _ 4 (leWords us) (leBytes 4 w) _ (length-leWords us) (length-leBytes 4 w)) ∙ le-round 4 w h
+between us w vs l h = ap leValue (ap (part (4 * length us) 4) spread ∙ found) ∙ le-round 4 w h
   where
     behind : List ℕ
     behind = drop (0 + length (leWords (us ++ w ∷ vs))) l
+
+    found : part (4 * length us) 4 (leWords us ++ (leBytes 4 w ++ (leWords vs ++ behind))) ≡ leBytes 4 w
+    found = part-mid _ 4 (leWords us) (leBytes 4 w) _ (length-leWords us) (length-leBytes 4 w)
 
     spread : leWords (us ++ w ∷ vs) ++ behind ≡ leWords us ++ (leBytes 4 w ++ (leWords vs ++ behind))
     spread = ap (λ (ys : List ℕ). ys ++ behind) (append-leWords us (w ∷ vs)) ∙ simp append-assoc
@@ -75,7 +81,8 @@ between us w vs l h = ap leValue (ap (part (4 * length us) 4) spread ∙ part-mi
 pub word-read : (k : ℕ) (ws l : List ℕ) → k < length ws → getD ws k 0 < 2 ^ 32 → le32 (4 * k) (splice 0 (leWords ws) l) ≡ getD ws k 0
 word-read k ws l h f =
     ap (λ (vs : List ℕ). le32 (4 * k) (splice 0 (leWords vs) l)) (split-at ws k 0 h)
-    ∙ ap (λ (n : ℕ). le32 (4 * n) (splice 0 (leWords (take k ws ++ getD ws k 0 ∷ drop (suc k) ws)) l)) (sym (length-take-le k ws (omega arith)))
+    ∙ ap (λ (n : ℕ). le32 (4 * n) (splice 0 (leWords (take k ws ++ getD ws k 0 ∷ drop (suc k) ws)) l))
+    (sym (length-take-le k ws (omega arith)))
     ∙ between (take k ws) (getD ws k 0) (drop (suc k) ws) l f
 
 -- The n words of a list of bytes from at.

@@ -9,7 +9,8 @@ use Rattle.words.specs.Parts.{splice}
 use Rattle.words.specs.Words.{leBytes}
 use Rattle.hcr.specs.declared.HcrCommand.{HcrCommand}
 use Rattle.hcr.specs.declared.WriteAnswer.the-variants as writes
-use Rattle.hcr.specs.Register.{leWords, word18, wordsOf, registerOf, writeRows, writeOf, bytesAfter, writtenOf, writeAnswerNumber}
+use Rattle.hcr.specs.Register.{leWords, word14, word18, wordsOf, registerOf, writeRows, writeOf, bytesAfter}
+use Rattle.hcr.specs.Register.{writtenOf, writeAnswerNumber}
 use Rattle.hcr.specs.WordList.{one-word, words-more}
 
 -- One word right behind the words us: m is the list before it.
@@ -28,7 +29,7 @@ pub seven-words : (c : HcrCommand) (t w : ℕ) (l m₁ m₂ m₃ m₄ o : List �
     → o ≡ splice 0x18 (leBytes 4 w) m₄
     → w ≡ word18 (c .event) (c .«op_modifier») (c .op)
     → m₄ ≡ splice 0x14 (leBytes 4 t) m₃
-    → t ≡ c .token * 2 ^ 16
+    → t ≡ word14 (c .token)
     → m₃ ≡ splice 0x0c (leWords (c .«out_param» / 2 ^ 32 ∷ c .«out_param» % 2 ^ 32 ∷ [])) m₂
     → m₂ ≡ splice 0x08 (leBytes 4 (c .«in_modifier»)) m₁
     → m₁ ≡ splice 0x00 (leWords (c .«in_param» / 2 ^ 32 ∷ c .«in_param» % 2 ^ 32 ∷ [])) l

@@ -5,14 +5,16 @@ ghost use mathlib.Core.List.{_∷_, []};
 ghost use lib.ListN.{length};
 ghost use Rattle.words.specs.Parts.{splice};
 ghost use Rattle.words.specs.Words.{bits};
-ghost use Rattle.hcr.specs.Register.{bit, leWords, paramAt, commandOf, wellFormed18, wellFormed, readRows, readOf, readAnswerNumber, word18, registerOf, writeRows, writeOf, writtenOf, writeAnswerNumber};
+ghost use Rattle.hcr.specs.Register.{bit, leWords, paramAt, commandOf, wellFormed18, wellFormed, readRows, readOf};
+ghost use Rattle.hcr.specs.Register.{readAnswerNumber, word14, word18, registerOf, writeRows, writeOf, writtenOf};
+ghost use Rattle.hcr.specs.Register.{writeAnswerNumber};
 
 pub struct HcrCommand {
     pub in_param: u64,
     pub in_modifier: u32,
     pub out_param: u64,
     pub token: u16,
-    // Document 01's E: completion is reported to an event queue.
+    // 01's E: completion is reported to an event queue.
     pub event: bool,
     pub op_modifier: u8,
     pub op: u16,
@@ -88,7 +90,7 @@ fn below_token_of(w: u32) -> u32
 
 // Word 14h of a command.
 fn join_14(token: u16) -> u32
-    ensures { λ r. ⌜ r ≡ token * 2 ^ 16 ⌝ }
+    ensures { λ r. ⌜ r ≡ word14 token ⌝ }
 {
     (token as u32) << 16
 }
@@ -171,7 +173,8 @@ fn command_of(hcr: &[u8]) -> HcrCommand
     }
 }
 
-// The command in the register's first 28 bytes. 0x83, 3 and 0 are document 01's numbers.
+// The command in the register's first 28 bytes (01, The command register). The contract has the
+// answer and 01's number for it.
 pub fn read(hcr: &[u8]) -> ReadAnswer
     ensures { λ r. ⌜ (r ≡ readOf (now (hcr .entry))) × (readAnswerNumber r ≡ readRows (now (hcr .entry)) 0x83 3 0) ⌝ }
 {
@@ -203,9 +206,10 @@ fn write_words(hcr: &mut [u8], c: HcrCommand)
     words::write_le32(hcr, 0x18, join_18(c.event, c.op_modifier, c.op));
 }
 
-// Writes a command to the register's first 28 bytes.
+// Writes a command to the register's first 28 bytes (01, The command register).
 pub fn write(hcr: &mut [u8], c: HcrCommand) -> WriteAnswer
-    ensures { λ r. ⌜ (r ≡ writeOf c (now (hcr .entry))) × (writeAnswerNumber r ≡ writeRows c (now (hcr .entry)) 0x83 3 0) × (now (hcr .exit) ≡ writtenOf c (now (hcr .entry))) ⌝ }
+    ensures { λ r. ⌜ (r ≡ writeOf c (now (hcr .entry))) × (writeAnswerNumber r ≡ writeRows c (now (hcr .entry)) 0x83 3 0)
+        × (now (hcr .exit) ≡ writtenOf c (now (hcr .entry))) ⌝ }
 {
     if hcr.len() < 28 {
         return WriteAnswer::Short;

@@ -1,27 +1,23 @@
--- The two conditions on pairs of slots, "two occupied slots with commands" and "running slots whose holds clash", as tests of
--- two slots.
+-- The two conditions on pairs of slots, one command at a time and no clash of holds, as tests of two slots.
 use mathlib.Core.Path.{_≡_, refl, sym, _∙_}
 use mathlib.Core.Bool.{Bool, true, false}
 use mathlib.Core.List.{List}
 use Rattle.words.specs.Choice.{both}
-use Rattle.request_table.specs.Records.{recordsOf, writesOf}
 use Rattle.words.specs.Tests.{both-swap, both-false}
 use Rattle.slots.specs.Slots.{slot, hasCommand}
 use Rattle.rows.specs.Rows.{anySlot}
-use Rattle.rows.specs.Holds.{clashStatus, heldAgainst}
+use Rattle.holds.specs.Holds.{heldAgainst}
 use Rattle.rows.specs.Every.{NoTwo, none-pairs, pairs-none, each-none}
-use Rattle.rows.specs.Laws.{clash-one, clash-symmetric}
+use Rattle.holds.specs.Laws.{clash-symmetric}
 use Rattle.slots.specs.declared.Slot.{Slot}
 use Rattle.slots.specs.declared.Status.{Status}
 use Rattle.slots.specs.declared.Status.the-variants.{Free, Running, Finished}
 use Rattle.possible.specs.Possible.{commandBefore, twoCommands, statusClash, clashBefore, holdsClash}
+use Rattle.possible.specs.Possible.{bothCommands, statusesClash, slotsClash}
 
 -- ---- commands
 
-abbrev pub bothCommands : Slot → Slot → Bool
-bothCommands s u = both (hasCommand s) (hasCommand u)
-
-commands-are : (s : Slot) (ss : List Slot) → commandBefore s ss ≡ anySlot (bothCommands s) ss
+pub commands-are : (s : Slot) (ss : List Slot) → commandBefore s ss ≡ anySlot (bothCommands s) ss
 unfolding commandBefore
 commands-are s ss = go (hasCommand s) ss
   where
@@ -45,15 +41,7 @@ pairs-commands row h = pairs-none commandBefore bothCommands commands-are row h
 
 -- ---- holds
 
-abbrev pub statusesClash : Status → Status → Bool
-statusesClash Free t = false
-statusesClash (Running m q) t = clashStatus (writesOf q) (recordsOf q) t
-statusesClash (Finished m q) t = false
-
-abbrev pub slotsClash : Slot → Slot → Bool
-slotsClash s u = statusesClash (s .status) (u .status)
-
-clashes-are : (s : Slot) (ss : List Slot) → clashBefore s ss ≡ anySlot (slotsClash s) ss
+pub clashes-are : (s : Slot) (ss : List Slot) → clashBefore s ss ≡ anySlot (slotsClash s) ss
 unfolding heldAgainst
 clashes-are s ss = go (s .status)
   where
@@ -67,7 +55,7 @@ statuses-swap Free Free = refl
 statuses-swap Free (Running n r) = refl
 statuses-swap Free (Finished n r) = refl
 statuses-swap (Running m q) Free = refl
-statuses-swap (Running m q) (Running n r) = clash-one r q ∙ clash-symmetric r q ∙ sym (clash-one q r)
+statuses-swap (Running m q) (Running n r) = clash-symmetric r q
 statuses-swap (Running m q) (Finished n r) = refl
 statuses-swap (Finished m q) Free = refl
 statuses-swap (Finished m q) (Running n r) = refl

@@ -10,21 +10,22 @@ use lib.ListN.{set}
 use Rattle.words.specs.Choice.{both, by-pick}
 use Rattle.context.specs.Layout.{fitsStore}
 use Rattle.context.specs.declared.Logs.{Logs}
-use Rattle.requests.specs.declared.Request.{Request}
 use Rattle.request_table.specs.Records.{numbersHold, isCommand}
 use Rattle.burst_table.specs.Bursts.{totalOf}
 use Rattle.words.specs.Tests.{neither-left, neither-right, neither, both-false}
-use Rattle.slots.specs.Slots.{slot, advancedStatus, advanced, commandStatus, hasCommand}
+use Rattle.slots.specs.Slots.{Held, slot, advancedStatus, advanced, commandStatus, hasCommand}
 use Rattle.rows.specs.Rows.{anySlot}
-use Rattle.rows.specs.Holds.{heldAgainst}
+use Rattle.holds.specs.Holds.{heldAgainst}
 use Rattle.burst_table.specs.Totals.{total-positive}
 use Rattle.rows.specs.Every.{at, None, NoTwo, none-each, each-none, none-set, pairs-set}
-use Rattle.rows.specs.Laws.{held-each, none-command}
+use Rattle.rows.specs.Laws.{none-command}
+use Rattle.holds.specs.Laws.{held-each}
 use Rattle.slots.specs.declared.Slot.{Slot}
 use Rattle.slots.specs.declared.Status.{Status}
 use Rattle.slots.specs.declared.Status.the-variants.{Free, Running, Finished}
-use Rattle.possible.specs.Possible.{statusWrong, slotWrong, twoCommands, openImpossible}
-use Rattle.possible.specs.Pairs.{bothCommands, commands-swap, commands-pairs, pairs-commands, statusesClash, slotsClash, clashes-swap, clashes-pairs, pairs-clashes}
+use Rattle.slot_checks.specs.SlotChecks.{statusWrong, slotWrong}
+use Rattle.possible.specs.Possible.{twoCommands, openImpossible, bothCommands, statusesClash, slotsClash}
+use Rattle.possible.specs.Pairs.{commands-swap, commands-pairs, pairs-commands, clashes-swap, clashes-pairs, pairs-clashes}
 
 pub record OpenRow (g : Logs) (store : ℕ) (row : List Slot) : Type 0 where
   pub fits : fitsStore g store ≡ true
@@ -68,22 +69,27 @@ module _ (g : Logs) (store : ℕ) (row : List Slot) where
 
 -- ---- a request accepted
 
-accepted-right : (g : Logs) (q : Request) → numbersHold g q ≡ true → statusWrong g (Running 0 q) ≡ false
+accepted-right : (g : Logs) (q : Held) → numbersHold g q ≡ true → statusWrong g (Running 0 q) ≡ false
 accepted-right g q h =
     let z : 0 < totalOf q = omega (arith, total-positive q) in
     neither (not (numbersHold g q)) _ (ap not h) (ap not (lt-ltb 0 (totalOf q) z))
 
-accepted-command : (row : List Slot) (q : Request) → (isCommand q ≡ true → anySlot hasCommand row ≡ false) → (i : ℕ) → bothCommands (slot (Running 0 q)) (at row i) ≡ false
+accepted-command : (row : List Slot) (q : Held) → (isCommand q ≡ true → anySlot hasCommand row ≡ false)
+    → (i : ℕ) → bothCommands (slot (Running 0 q)) (at row i) ≡ false
 accepted-command row q h i = go (isCommand q) refl
   where
     go : (b : Bool) → isCommand q ≡ b → both (isCommand q) (hasCommand (at row i)) ≡ false
     go true e = both-false (isCommand q) (hasCommand (at row i)) (none-command row (h e) i)
     go false e = rw e
 
-pub row-accepted : (g : Logs) (store : ℕ) (row : List Slot) (k : ℕ) (q : Request) → numbersHold g q ≡ true → heldAgainst row q ≡ false
-    → (isCommand q ≡ true → anySlot hasCommand row ≡ false) → OpenRow g store row → OpenRow g store (set row k (slot (Running 0 q)))
+pub row-accepted : (g : Logs) (store : ℕ) (row : List Slot) (k : ℕ) (q : Held) → numbersHold g q ≡ true
+    → heldAgainst row q ≡ false → (isCommand q ≡ true → anySlot hasCommand row ≡ false)
+    → OpenRow g store row → OpenRow g store (set row k (slot (Running 0 q)))
 row-accepted g store row k q n h c o =
-    row-changed g store row k (slot (Running 0 q)) (accepted-right g q n) (λ i m. accepted-command row q c i) (λ i m. held-each row q h i) o
+    row-changed g store row k (slot (Running 0 q)) (accepted-right g q n)
+    (λ i m. accepted-command row q c i)
+    (λ i m. held-each row q h i)
+    o
 
 -- ---- a burst moved
 
@@ -99,16 +105,21 @@ advanced-right g (Finished m q) e = e
 advanced-command : (s : Status) → commandStatus (advancedStatus s) ≡ commandStatus s
 advanced-command Free = refl
 advanced-command (Running m q) =
-    by-pick (λ (s : Status). commandStatus s ≡ isCommand q) (ltb (m + 1) (totalOf q)) (Running (m + 1) q) (Finished (totalOf q) q) (λ h. refl) (λ h. refl)
+    by-pick (λ (s : Status). commandStatus s ≡ isCommand q) (ltb (m + 1) (totalOf q)) (Running (m + 1) q) (Finished (totalOf q) q)
+    (λ h. refl)
+    (λ h. refl)
 advanced-command (Finished m q) = refl
 
 advanced-clash : (s t : Status) → statusesClash s t ≡ false → statusesClash (advancedStatus s) t ≡ false
 advanced-clash Free t e = refl
 advanced-clash (Running m q) t e =
-    by-pick (λ (s : Status). statusesClash s t ≡ false) (ltb (m + 1) (totalOf q)) (Running (m + 1) q) (Finished (totalOf q) q) (λ h. e) (λ h. refl)
+    by-pick (λ (s : Status). statusesClash s t ≡ false) (ltb (m + 1) (totalOf q)) (Running (m + 1) q) (Finished (totalOf q) q)
+    (λ h. e)
+    (λ h. refl)
 advanced-clash (Finished m q) t e = refl
 
-pub row-advanced : (g : Logs) (store : ℕ) (row : List Slot) (k : ℕ) → OpenRow g store row → OpenRow g store (set row k (advanced (at row k)))
+pub row-advanced : (g : Logs) (store : ℕ) (row : List Slot) (k : ℕ) → OpenRow g store row
+    → OpenRow g store (set row k (advanced (at row k)))
 row-advanced g store row k o =
     row-changed g store row k (advanced (at row k)) (advanced-right g (at row k .status) (o .right k))
     (λ i m. ap (λ (b : Bool). both b (hasCommand (at row i))) (advanced-command (at row k .status)) ∙ o .commands k i (λ e. m (sym e)))
@@ -117,5 +128,6 @@ row-advanced g store row k o =
 
 -- ---- a slot freed
 
-pub row-freed : (g : Logs) (store : ℕ) (row : List Slot) (k : ℕ) → OpenRow g store row → OpenRow g store (set row k (slot Free))
+pub row-freed : (g : Logs) (store : ℕ) (row : List Slot) (k : ℕ) → OpenRow g store row
+    → OpenRow g store (set row k (slot Free))
 row-freed g store row k o = row-changed g store row k (slot Free) refl (λ i m. refl) (λ i m. refl) o

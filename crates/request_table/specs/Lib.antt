@@ -1,4 +1,5 @@
--- The request table of document 01: records and mailboxes.
+-- The request table of document 01: which records, and whether they are written.
 pub mod Records
-pub mod Mailboxes
+pub mod Listed
 pub mod Sizes
+pub mod Laws

@@ -1,8 +1,8 @@
--- Which record a request touches, whether it reads or writes it, and which numbers its submission accepts.
+-- Which records a request holds, whether it reads or writes them, and which numbers its submission accepts.
 use mathlib.Core.Bool.{Bool, true, false}
 use mathlib.Core.List.{List, [], _∷_}
-use Rattle.words.specs.Choice.{both}
-use Rattle.context.specs.Layout.{isRecord}
+use Rattle.words.specs.Choice.{both, either}
+use Rattle.context.specs.Layout.{isRecord, sameRecord}
 use Rattle.context.specs.declared.Logs.{Logs}
 use Rattle.context.specs.declared.Record.{Record}
 use Rattle.context.specs.declared.Record.the-variants as rec
@@ -15,14 +15,16 @@ use Rattle.requests.specs.declared.EngineRequest.{EngineRequest}
 use Rattle.requests.specs.declared.EngineRequest.the-variants as engine
 use Rattle.requests.specs.declared.Request.{Request}
 use Rattle.requests.specs.declared.Request.the-variants as request
+use Rattle.request_table.specs.declared.Records.{Records}
 
--- "SW2HW for MPT 0xd, EQ 0x13, CQ 0x16: in_modifier is the index"; "HW2SW 0xf, 0x14, 0x17"
+-- the record that a command on an owner hands over, by its kind and index (01, Commands, SW2HW and HW2SW)
 abbrev pub ownedRecord : Owned → Record
 ownedRecord (owned.Mpt n) = rec.Mpt n
 ownedRecord (owned.Eq n) = rec.Eq n
 ownedRecord (owned.Cq n) = rec.Cq n
 
--- "in_modifier is the record's number"; "Edges, in_modifier the QP number."
+-- a command names its record by in_modifier; RESIZE_CQ's is a completion queue, QUERY_QP's and an edge's a queue pair
+-- (01, Commands)
 abbrev pub commandRecord : Command → Record
 commandRecord (command.Sw2Hw o) = ownedRecord o
 commandRecord (command.Hw2Sw o) = ownedRecord o
@@ -30,23 +32,45 @@ commandRecord (command.ResizeCq n) = rec.Cq n
 commandRecord (command.QueryQp n) = rec.Qp n
 commandRecord (command.ModifyQp e n) = rec.Qp n
 
--- The index is a queue pair's number: no sentence of document 01 says so, but state and PSNs stand in the "QP record" alone
--- (docs/DECISIONS.md, 28).
+-- an engine request's index is a queue pair's number: 01 does not say so, but only the QP record has a state and PSNs
+-- (docs/DECISIONS.md, 28)
 abbrev pub engineRecord : EngineRequest → Record
 engineRecord (engine.ReadState n) = rec.Qp n
 engineRecord (engine.ReadNext n) = rec.Qp n
 engineRecord (engine.ReadAll n) = rec.Qp n
 engineRecord (engine.Write p s n psn) = rec.Qp n
 
+-- the record that a request's index names
 abbrev pub recordOf : Request → Record
 recordOf (request.Command c) = commandRecord c
 recordOf (request.Engine e) = engineRecord e
 
--- "A running request holds its record": the records that a request holds, one today
-abbrev pub recordsOf : Request → List Record
-recordsOf q = recordOf q ∷ []
+-- the code's value for some records, as a list: today of one
+abbrev pub listOf : Records → List Record
+listOf s = s .first ∷ []
 
--- "Reads (QUERY_QP, requests 1, 2 and 6)"; "Every other request on a record is a write."
+-- what a request holds while it runs: the record that its index names (01, Bursts, slots and holds)
+abbrev pub holdsOf : Request → Records
+holdsOf q = record { first = recordOf q }
+
+abbrev pub recordsOf : Request → List Record
+recordsOf q = listOf (holdsOf q)
+
+-- what stands past the end of a list of records
+abbrev pub noRecord : Record
+noRecord = rec.Qp (record { 0 = 0 })
+
+-- X is one of some records
+abbrev pub oneOf : List Record → Record → Bool
+oneOf [] X = false
+oneOf (Y ∷ Ys) X = either (sameRecord Y X) (oneOf Ys X)
+
+-- the store has all of some records, by its counts
+abbrev pub allRecords : Logs → List Record → Bool
+allRecords g [] = true
+allRecords g (X ∷ Xs) = both (isRecord g X) (allRecords g Xs)
+
+-- QUERY_QP and the engine requests 1, 2 and 6 read; every other request on a record writes (01, The plain book of demand 3)
 abbrev pub commandWrites : Command → Bool
 commandWrites (command.Sw2Hw o) = true
 commandWrites (command.Hw2Sw o) = true
@@ -64,11 +88,13 @@ abbrev pub writesOf : Request → Bool
 writesOf (request.Command c) = commandWrites c
 writesOf (request.Engine e) = engineWrites e
 
+-- a command, not an engine request
 abbrev pub isCommand : Request → Bool
 isCommand (request.Command c) = true
 isCommand (request.Engine e) = false
 
--- "in requests 3 to 5, PSN above 0xffffff": a state above 6 and an unserved number cannot be held by a request
+-- the PSN of an engine write fits 24 bits (01, Numbers returned, the second 3); a state above 6 and a number that is not
+-- served cannot be held by a request
 abbrev pub enginePsnHolds : EngineRequest → Bool
 enginePsnHolds (engine.ReadState n) = true
 enginePsnHolds (engine.ReadNext n) = true
@@ -79,6 +105,6 @@ abbrev pub psnHolds : Request → Bool
 psnHolds (request.Command c) = true
 psnHolds (request.Engine e) = enginePsnHolds e
 
--- a request whose index, PSN and state its submission accepts
+-- a request whose numbers its submission accepts: the store has all its records, and its PSN fits
 unfoldable pub numbersHold : Logs → Request → Bool
-numbersHold g q = both (isRecord g (recordOf q)) (psnHolds q)
+numbersHold g q = both (allRecords g (recordsOf q)) (psnHolds q)

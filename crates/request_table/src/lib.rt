@@ -1,15 +1,18 @@
-// The request table: for each request its record, whether it writes, and the mailbox bytes it needs.
+// The request table: for each request its records, and whether it writes them.
 use context::Logs;
 use context::Record;
-use edges::Edge;
 use requests::Command;
 use requests::EngineRequest;
 use requests::Owned;
 use requests::Request;
 ghost use mathlib.Core.Path.{_≡_};
-ghost use Rattle.request_table.specs.Records.{ownedRecord, commandRecord, engineRecord, recordOf, recordsOf, commandWrites, engineWrites, writesOf, isCommand, psnHolds, numbersHold};
-ghost use Rattle.request_table.specs.Mailboxes.{storedOf, edgeNeed, commandNeed, needOf};
+ghost use Prim.Native.Nat.{_<_};
+ghost use lib.ListN.{length, getD};
+ghost use Rattle.request_table.specs.Records.{ownedRecord, commandRecord, engineRecord, recordOf};
+ghost use Rattle.request_table.specs.Records.{listOf, holdsOf, noRecord, oneOf, allRecords};
+ghost use Rattle.request_table.specs.Records.{commandWrites, engineWrites, writesOf, isCommand, psnHolds, numbersHold};
 
+// The record of a kind that has an owner.
 fn owned_record(owned: Owned) -> Record
     ensures { λ r. ⌜ r ≡ ownedRecord owned ⌝ }
 {
@@ -43,7 +46,7 @@ fn engine_record(engine: EngineRequest) -> Record
     }
 }
 
-// The record that a request reads or writes.
+// The record that a request's index names.
 pub fn record_of(request: Request) -> Record
     ensures { λ r. ⌜ r ≡ recordOf request ⌝ }
 {
@@ -53,11 +56,46 @@ pub fn record_of(request: Request) -> Record
     }
 }
 
-// The records that a request holds while it runs.
-pub fn records_of(request: Request) -> [Record; 1]
-    ensures { λ r. ⌜ r ≡ recordsOf request ⌝ }
+// The records that a request holds while it runs: today one. Only the four functions below look
+// inside, so a request on more records changes them and no scan.
+pub struct Records {
+    pub first: Record,
+}
+
+pub fn records_of(request: Request) -> Records
+    ensures { λ r. ⌜ r ≡ holdsOf request ⌝ }
 {
-    [record_of(request)]
+    Records {
+        first: record_of(request),
+    }
+}
+
+pub fn count(records: Records) -> usize
+    ensures { λ r. ⌜ r ≡ length (listOf records) ⌝ }
+{
+    1
+}
+
+pub fn nth(records: Records, j: usize) -> Record
+    requires { ⌜ j < length (listOf records) ⌝ }
+    ensures { λ r. ⌜ r ≡ getD (listOf records) j noRecord ⌝ }
+{
+    records.first
+}
+
+pub fn is_one_of(records: Records, rec: Record) -> bool
+    ensures { λ r. ⌜ r ≡ oneOf (listOf records) rec ⌝ }
+{
+    let first = records.first;
+    context::same_record(first, rec)
+}
+
+// Whether the store has all of some records.
+pub fn all_records(logs: Logs, records: Records) -> bool
+    ensures { λ r. ⌜ r ≡ allRecords logs (listOf records) ⌝ }
+{
+    let first = records.first;
+    context::is_record(logs, first)
 }
 
 fn command_writes(command: Command) -> bool
@@ -83,6 +121,7 @@ fn engine_writes(engine: EngineRequest) -> bool
     }
 }
 
+// Whether a request writes its records, or only reads them.
 pub fn writes(request: Request) -> bool
     ensures { λ r. ⌜ r ≡ writesOf request ⌝ }
 {
@@ -92,6 +131,7 @@ pub fn writes(request: Request) -> bool
     }
 }
 
+// Whether a request is a command, not an engine request.
 pub fn is_command(request: Request) -> bool
     ensures { λ r. ⌜ r ≡ isCommand request ⌝ }
 {
@@ -101,6 +141,7 @@ pub fn is_command(request: Request) -> bool
     }
 }
 
+// Whether the PSN of an engine write fits its 24 bits; other requests have none.
 fn psn_holds(request: Request) -> bool
     ensures { λ r. ⌜ r ≡ psnHolds request ⌝ }
 {
@@ -115,63 +156,12 @@ fn psn_holds(request: Request) -> bool
     }
 }
 
-// Whether a request's index and PSN are ones that its submission accepts.
+// Whether a request's records and PSN are ones that its submission accepts.
 pub fn numbers_hold(request: Request, logs: Logs) -> bool
     ensures { λ r. ⌜ r ≡ numbersHold logs request ⌝ }
 {
-    if !context::is_record(logs, record_of(request)) {
+    if !all_records(logs, records_of(request)) {
         return false;
     }
     psn_holds(request)
-}
-
-// The mailbox bytes that a record with an owner stores.
-pub fn stored(owned: Owned) -> usize
-    ensures { λ r. ⌜ r ≡ storedOf owned ⌝ }
-{
-    match owned {
-        Owned::Mpt(_) => 56,
-        Owned::Eq(_) => 48,
-        Owned::Cq(_) => 56,
-    }
-}
-
-fn edge_need(edge: Edge) -> usize
-    ensures { λ r. ⌜ r ≡ edgeNeed edge ⌝ }
-{
-    match edge {
-        Edge::ResetToInit => 164,
-        Edge::InitToInit => 164,
-        Edge::InitToRtr => 164,
-        Edge::RtrToRts => 164,
-        Edge::RtsToRts => 164,
-        Edge::SqeToRts => 164,
-        Edge::RtsToSqd => 0,
-        Edge::SqdToSqd => 164,
-        Edge::SqdToRts => 164,
-        Edge::ToErr => 0,
-        Edge::ToReset => 0,
-    }
-}
-
-fn command_need(command: Command) -> usize
-    ensures { λ r. ⌜ r ≡ commandNeed command ⌝ }
-{
-    match command {
-        Command::Sw2Hw(owned) => stored(owned),
-        Command::Hw2Sw(_) => 0,
-        Command::ResizeCq(_) => 8,
-        Command::QueryQp(_) => 0,
-        Command::ModifyQp(edge, _) => edge_need(edge),
-    }
-}
-
-// The mailbox bytes that a request needs.
-pub fn need(request: Request) -> usize
-    ensures { λ r. ⌜ r ≡ needOf request ⌝ }
-{
-    match request {
-        Request::Command(command) => command_need(command),
-        Request::Engine(_) => 0,
-    }
 }

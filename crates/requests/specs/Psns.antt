@@ -3,6 +3,6 @@ use mathlib.Core.Bool.{Bool}
 use Prim.Native.Nat.{ℕ}
 use lib.Dec.{leb}
 
--- not "PSN above 0xffffff"
+-- a PSN has 24 bits; a larger one is refused (01, Numbers returned, 3)
 abbrev pub psnFits : ℕ → Bool
 psnFits psn = leb psn 0xffffff

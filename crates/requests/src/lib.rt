@@ -44,7 +44,7 @@ pub enum Request {
     Engine(EngineRequest),
 }
 
-// Whether a PSN is one that an engine write may set: 24 bits.
+// Whether a PSN is one that an engine write may set: it has 24 bits.
 pub fn psn_fits(psn: u32) -> bool
     ensures { λ r. ⌜ r ≡ psnFits psn ⌝ }
 {

@@ -43,7 +43,8 @@ each-none p (s ∷ ss) h = neither (p s) (anySlot p ss) (h zero) (each-none p ss
 -- ---- each pair of slots: p says of a slot and those behind it what t says of it and each of them
 
 module _ (p : Slot → List Slot → Bool) (t : Slot → Slot → Bool) (is : (s : Slot) (ss : List Slot) → p s ss ≡ anySlot (t s) ss) where
-  pub pairs-before : ((s : Slot) → t s (slot Free) ≡ false) → ((s : Slot) → t (slot Free) s ≡ false) → (row : List Slot) → anyRest p row ≡ false
+  pub pairs-before : ((s : Slot) → t s (slot Free) ≡ false) → ((s : Slot) → t (slot Free) s ≡ false)
+      → (row : List Slot) → anyRest p row ≡ false
       → (i j : ℕ) → i < j → t (at row i) (at row j) ≡ false
   unfolding anyRest
   pairs-before f g [] e i j h = f (slot Free)
@@ -58,7 +59,8 @@ module _ (p : Slot → List Slot → Bool) (t : Slot → Slot → Bool) (is : (s
       neither (p s ss) (anyRest p ss) (is s ss ∙ each-none (t s) ss (λ k. h zero (suc k) (λ e. omega arith)))
       (pairs-none ss (λ i j n. h (suc i) (suc j) (λ e. n (suc-inj e))))
 
-  pub none-pairs : ((s u : Slot) → t s u ≡ t u s) → ((s : Slot) → t s (slot Free) ≡ false) → (row : List Slot) → anyRest p row ≡ false → NoTwo t row
+  pub none-pairs : ((s u : Slot) → t s u ≡ t u s) → ((s : Slot) → t s (slot Free) ≡ false)
+      → (row : List Slot) → anyRest p row ≡ false → NoTwo t row
   none-pairs swap f row e i j n = go (decLt i j)
     where
       g : (s : Slot) → t (slot Free) s ≡ false

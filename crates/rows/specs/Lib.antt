@@ -1,7 +1,5 @@
--- The row of eight slots, and holds.
+-- The row of eight slots.
 pub mod Rows
-pub mod Holds
 pub mod Scans
-pub mod Clashes
 pub mod Every
 pub mod Laws

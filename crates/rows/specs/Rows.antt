@@ -20,11 +20,11 @@ unfoldable pub anyRest : (Slot → List Slot → Bool) → List Slot → Bool
 anyRest p [] = false
 anyRest p (s ∷ ss) = either (p s ss) (anyRest p ss)
 
--- "takes the lowest free slot": of a row whose first slot has the number k
+-- the lowest free slot, which submission takes, of a row whose first slot has the number k (01, Bursts, slots and holds)
 unfoldable pub lowestFree : ℕ → List Slot → SlotFound
 lowestFree k [] = Nothing
 lowestFree k (s ∷ ss) = pick (isOccupied s) (lowestFree (suc k) ss) (At k)
 
--- "empties all slots"
+-- the row that reset leaves (01, Bursts, slots and holds)
 abbrev pub emptyRow : List Slot
 emptyRow = replicate 8 (slot Free)

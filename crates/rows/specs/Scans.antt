@@ -33,7 +33,8 @@ pub any-found : (p : Slot → Bool) (row l : List Slot) (i : ℕ) → length row
 any-found p row l i n h t k =
     sym (simp t at (any-head p row i (omega arith))) ∙ k
 
-pub any-none : (p : Slot → Bool) (row l : List Slot) (i : ℕ) → length row ≡ 8 → 8 ≤ i → anySlot p (drop i row) ≡ anySlot p l → false ≡ anySlot p l
+pub any-none : (p : Slot → Bool) (row l : List Slot) (i : ℕ) → length row ≡ 8 → 8 ≤ i
+    → anySlot p (drop i row) ≡ anySlot p l → false ≡ anySlot p l
 unfolding anySlot
 any-none p row l i n h k =
     let g : drop i row ≡ [] = drop-of-length-le row {i = i} (omega arith) in
@@ -58,7 +59,8 @@ rest-found p row l i n h f k =
     let t : p (getD row i (slot Free)) (drop (suc i) row) ≡ true = rw add-one at f in
     sym (simp t at (rest-head p row i (omega arith))) ∙ k
 
-pub rest-none : (p : Slot → List Slot → Bool) (row l : List Slot) (i : ℕ) → length row ≡ 8 → 8 ≤ i → anyRest p (drop i row) ≡ anyRest p l → false ≡ anyRest p l
+pub rest-none : (p : Slot → List Slot → Bool) (row l : List Slot) (i : ℕ) → length row ≡ 8 → 8 ≤ i
+    → anyRest p (drop i row) ≡ anyRest p l → false ≡ anyRest p l
 unfolding anyRest
 rest-none p row l i n h k =
     let g : drop i row ≡ [] = drop-of-length-le row {i = i} (omega arith) in

@@ -1,14 +1,12 @@
-// The row of eight slots: who is under way, and who holds which record.
-use context::Record;
-use requests::Request;
+// The row of eight slots: which is free, who is under way, and one slot taken out or put back.
 use slots::Slot;
 use slots::Status;
 ghost use mathlib.Core.Path.{_≡_};
 ghost use Prim.Native.Nat.{_≤_};
-ghost use lib.ListN.{drop};
-ghost use Rattle.slots.specs.Slots.{isOccupied, hasCommand};
+ghost use lib.ListN.{getD, set, drop};
+ghost use Rattle.slots.specs.Slots.{slot, isOccupied, hasCommand};
+ghost use Rattle.slots.specs.declared.Status.the-variants.{Free};
 ghost use Rattle.rows.specs.Rows.{emptyRow, anySlot, lowestFree};
-ghost use Rattle.rows.specs.Holds.{clashPair, heldAgainst};
 
 // The number of the lowest free slot, if one is free.
 pub enum SlotFound {
@@ -16,6 +14,7 @@ pub enum SlotFound {
     Nothing,
 }
 
+// The row that reset leaves.
 pub fn empty_row() -> [Slot; 8]
     ensures { λ r. ⌜ r ≡ emptyRow ⌝ }
 {
@@ -24,6 +23,7 @@ pub fn empty_row() -> [Slot; 8]
     }; 8]
 }
 
+// The slot that submission takes.
 pub fn lowest_free(row: [Slot; 8]) -> SlotFound
     ensures { λ r. ⌜ r ≡ lowestFree 0 row ⌝ }
 {
@@ -36,6 +36,7 @@ pub fn lowest_free(row: [Slot; 8]) -> SlotFound
     SlotFound::Nothing
 }
 
+// Whether a slot has a request, running or finished.
 pub fn any_occupied(row: [Slot; 8]) -> bool
     ensures { λ r. ⌜ r ≡ anySlot isOccupied row ⌝ }
 {
@@ -60,50 +61,48 @@ pub fn command_from(row: [Slot; 8], start: usize) -> bool
     false
 }
 
+// Whether a command is uncollected.
 pub fn command_uncollected(row: [Slot; 8]) -> bool
     ensures { λ r. ⌜ r ≡ anySlot hasCommand row ⌝ }
 {
     command_from(row, 0)
 }
 
-// Whether a running request holds this record against one that writes it or not.
-fn clashes(running: Request, writes: bool, rec: Record) -> bool
-    ensures { λ r. ⌜ r ≡ clashPair running writes rec ⌝ }
+// Slot k; past the row's end stands a free slot.
+pub fn slot_at(row: [Slot; 8], k: usize) -> Slot
+    ensures { λ r. ⌜ r ≡ getD row k (slot Free) ⌝ }
 {
-    if !context::same_record(request_table::record_of(running), rec) {
-        return false;
+    if k < 8 {
+        return row[k];
     }
-    if request_table::writes(running) {
-        return true;
+    Slot {
+        status: Status::Free,
     }
-    writes
 }
 
-// Whether a running request of the slots from `start` on holds a record against this request.
-pub fn held_from(row: [Slot; 8], start: usize, request: Request) -> bool
-    requires { ⌜ start ≤ 8 ⌝ }
-    ensures { λ r. ⌜ r ≡ heldAgainst (drop start row) request ⌝ }
+fn status_of(slot: Slot) -> Status
+    ensures { λ r. ⌜ r ≡ slot .status ⌝ }
 {
-    let records = request_table::records_of(request);
-    let writes = request_table::writes(request);
-    for i in start..8 {
-        let slot = row[i];
-        let status = slot.status;
-        let Status::Running(_, running) = status else {
-            continue;
-        };
-        for j in 0..1 {
-            if !clashes(running, writes, records[j]) {
-                continue;
-            }
-            return true; // the first clash leaves both loops
-        }
-    }
-    false
+    slot.status
 }
 
-pub fn held(row: [Slot; 8], request: Request) -> bool
-    ensures { λ r. ⌜ r ≡ heldAgainst row request ⌝ }
+// The status of slot k.
+pub fn status_at(row: [Slot; 8], k: usize) -> Status
+    ensures { λ r. ⌜ r ≡ getD row k (slot Free) .status ⌝ }
 {
-    held_from(row, 0, request)
+    if 8 <= k {
+        return Status::Free;
+    }
+    status_of(row[k])
+}
+
+// The row with another slot k; past its end there is none to replace.
+pub fn put(mut row: [Slot; 8], k: usize, slot: Slot) -> [Slot; 8]
+    ensures { λ r. ⌜ r ≡ set row k slot ⌝ }
+{
+    if 8 <= k {
+        return row;
+    }
+    row[k] = slot;
+    row
 }

@@ -2,7 +2,6 @@
 use mathlib.Core.Bool.{Bool, true, false}
 use mathlib.Core.List.{List, []}
 use Prim.Native.Nat.{ℕ}
-use lib.ListN.{take}
 use Rattle.words.specs.Choice.{pick}
 use Rattle.words.specs.Parts.{part}
 use Rattle.hcr.specs.Register.{readOf}
@@ -10,19 +9,19 @@ use Rattle.hcr.specs.declared.HcrCommand.{HcrCommand}
 use Rattle.hcr.specs.declared.ReadAnswer.{ReadAnswer}
 use Rattle.hcr.specs.declared.ReadAnswer.the-variants as hcr
 use Rattle.context.specs.declared.Logs.{Logs}
-use Rattle.commands.specs.Commands.{readOp, readCommand}
-use Rattle.engines.specs.Engines.{readNumber, readEngine}
-use Rattle.commands.specs.declared.CommandFound.{CommandFound}
-use Rattle.commands.specs.declared.CommandFound.the-variants as found
-use Rattle.engines.specs.declared.EngineFound.{EngineFound}
-use Rattle.engines.specs.declared.EngineFound.the-variants as engine
-use Rattle.commands.specs.declared.OpFound.{OpFound}
-use Rattle.commands.specs.declared.OpFound.the-variants as op
-use Rattle.engines.specs.declared.NumberFound.{NumberFound}
-use Rattle.engines.specs.declared.NumberFound.the-variants as number
 use Rattle.requests.specs.declared.Request.{Request}
 use Rattle.requests.specs.declared.Request.the-variants as request
-use Rattle.request_table.specs.Mailboxes.{needOf}
+use Rattle.commands.specs.Commands.{readOp, readCommand}
+use Rattle.commands.specs.declared.CommandFound.{CommandFound}
+use Rattle.commands.specs.declared.CommandFound.the-variants as command′
+use Rattle.commands.specs.declared.OpFound.{OpFound}
+use Rattle.commands.specs.declared.OpFound.the-variants as op
+use Rattle.engines.specs.Engines.{readNumber, readEngine}
+use Rattle.engines.specs.declared.EngineFound.{EngineFound}
+use Rattle.engines.specs.declared.EngineFound.the-variants as engine
+use Rattle.engines.specs.declared.NumberFound.{NumberFound}
+use Rattle.engines.specs.declared.NumberFound.the-variants as number
+use Rattle.mailboxes.specs.Mailboxes.{needOf}
 use Rattle.rules.specs.declared.SubmitAnswer.{SubmitAnswer}
 use Rattle.rules.specs.declared.SubmitAnswer.the-variants as submit
 use Rattle.rules.specs.declared.StepAnswer.{StepAnswer}
@@ -30,7 +29,7 @@ use Rattle.rules.specs.declared.CollectAnswer.{CollectAnswer}
 use Rattle.rules.specs.declared.CollectAnswer.the-variants as collect
 use Rattle.rules.specs.declared.ResetAnswer.{ResetAnswer}
 use Rattle.rules.specs.declared.ResetAnswer.the-variants as reset
-use Rattle.rules.specs.Numbers.{refusalNumber, forState}
+use Rattle.rules.specs.Numbers.{refusalNumber, forState, collectValues}
 use Rattle.rules.specs.World.{World}
 use Rattle.rules.specs.Commands.{submitCommand}
 use Rattle.rules.specs.Engines.{submitEngine}
@@ -71,24 +70,42 @@ worldAfter w resetting = resetOf w .world
 
 -- ---- what a submission asks for: from its bytes or numbers, and the counts of the initialisation
 
-abbrev pub opFound : Logs → HcrCommand → OpFound → CommandFound
-opFound g c (op.Served o) = readCommand g o (c .«op_modifier») (c .«in_modifier»)
-opFound g c op.NotServed = found.Wrong
+pub data Asked : Type 0 where
+  asksInit : Asked
+  asksClose : Asked
+  asksNop : Asked
+  asksRequest : Request → Asked
+  asksNothing : Asked
 
-abbrev pub registerFound : Logs → ReadAnswer → CommandFound
-registerFound g hcr.Short = found.Wrong
-registerFound g hcr.Malformed = found.Wrong
-registerFound g (hcr.Command c) = opFound g c (readOp (c .op))
+abbrev pub foundAsked : CommandFound → Asked
+foundAsked command′.InitHca = asksInit
+foundAsked command′.CloseHca = asksClose
+foundAsked command′.Nop = asksNop
+foundAsked (command′.OnRecord c) = asksRequest (request.Command c)
+foundAsked command′.Wrong = asksNothing
 
-abbrev pub commandFound : Logs → List ℕ → CommandFound
-commandFound g bytes = registerFound g (readOf bytes)
+abbrev pub opAsked : Logs → HcrCommand → OpFound → Asked
+opAsked g c (op.Served o) = foundAsked (readCommand g o (c .«op_modifier») (c .«in_modifier»))
+opAsked g c op.NotServed = asksNothing
 
-abbrev pub numberFound : Logs → ℕ → ℕ → ℕ → NumberFound → EngineFound
-numberFound g index psn state (number.Served n) = readEngine g n index psn state
-numberFound g index psn state number.NotServed = engine.Wrong
+abbrev pub registerAsked : Logs → ReadAnswer → Asked
+registerAsked g hcr.Short = asksNothing
+registerAsked g hcr.Malformed = asksNothing
+registerAsked g (hcr.Command c) = opAsked g c (readOp (c .op))
 
-abbrev pub engineFound : Logs → ℕ → ℕ → ℕ → ℕ → EngineFound
-engineFound g n index psn state = numberFound g index psn state (readNumber n)
+abbrev pub commandAsked : Logs → List ℕ → Asked
+commandAsked g bytes = registerAsked g (readOf bytes)
+
+abbrev pub engineFoundAsked : EngineFound → Asked
+engineFoundAsked (engine.OnRecord e) = asksRequest (request.Engine e)
+engineFoundAsked engine.Wrong = asksNothing
+
+abbrev pub numberAsked : Logs → ℕ → ℕ → ℕ → NumberFound → Asked
+numberAsked g index psn state (number.Served n) = engineFoundAsked (readEngine g n index psn state)
+numberAsked g index psn state number.NotServed = asksNothing
+
+abbrev pub engineAsked : Logs → ℕ → ℕ → ℕ → ℕ → Asked
+engineAsked g n index psn state = numberAsked g index psn state (readNumber n)
 
 -- ---- what a call and its answer say of a request, for the journal
 
@@ -104,45 +121,41 @@ pub data Note : Type 0 where
   -- this slot was collected, with this answer
   emptied : ℕ → List ℕ → Note
 
--- what the book is fed: the request, and "the needed front of the mailbox as submitted"
+-- what the book is fed: the request, and the needed front of the mailbox as submitted (01, The plain book of demand 3)
 abbrev pub fed : Request → List ℕ → Fed
 fed q mail = onRecord q (part 0 (needOf q) mail)
 
--- "A request is accepted when its submission answers 0"; "Refused because of its record's state means .."
+-- A request is accepted when its submission answers 0; a refusal is noted where its cause is the record's state (01, the same section).
 abbrev pub requestNote : Request → List ℕ → SubmitAnswer → Note
 requestNote q mail submit.Done = nothing
 requestNote q mail (submit.Accepted k) = accepted (fed q mail) k
 requestNote q mail (submit.Refused c) = pick (forState c) (refused (fed q mail) (refusalNumber c)) nothing
 
--- "CLOSE_HCA and NOP at once, with an empty answer"
+-- CLOSE_HCA and NOP are finished at once, with an empty answer.
 abbrev pub onceNote : Fed → SubmitAnswer → Note
 onceNote f submit.Done = finished f []
 onceNote f (submit.Accepted k) = nothing
 onceNote f (submit.Refused c) = nothing
 
-abbrev pub commandNote : List ℕ → CommandFound → SubmitAnswer → Note
-commandNote mail found.InitHca a = nothing
-commandNote mail found.CloseHca a = onceNote closeHca a
-commandNote mail found.Nop a = onceNote nop a
-commandNote mail (found.OnRecord c) a = requestNote (request.Command c) mail a
-commandNote mail found.Wrong a = nothing
+abbrev pub submitNote : List ℕ → Asked → SubmitAnswer → Note
+submitNote mail asksInit a = nothing
+submitNote mail asksClose a = onceNote closeHca a
+submitNote mail asksNop a = onceNote nop a
+submitNote mail (asksRequest q) a = requestNote q mail a
+submitNote mail asksNothing a = nothing
 
-abbrev pub engineNote : EngineFound → SubmitAnswer → Note
-engineNote (engine.OnRecord e) a = requestNote (request.Engine e) [] a
-engineNote engine.Wrong a = nothing
-
--- "Its answer is what collecting it wrote": that many bytes at the front of the buffer
+-- Its answer is what collecting it wrote: that many bytes at the front of the buffer.
 abbrev pub collectNote : ℕ → List ℕ → CollectAnswer → Note
-collectNote k out (collect.Collected n) = emptied k (take n out)
+collectNote k out (collect.Collected n) = emptied k (collectValues (collect.Collected n) out)
 collectNote k out (collect.Refused c) = nothing
 
 -- by call and answer; g gives the counts of the initialisation
 abbrev pub noteOf : Logs → Call → Answer → Note
-noteOf g (command bytes mail) (submitted a) = commandNote mail (commandFound g bytes) a
+noteOf g (command bytes mail) (submitted a) = submitNote mail (commandAsked g bytes) a
 noteOf g (command bytes mail) (stepped a) = nothing
 noteOf g (command bytes mail) (collected a out) = nothing
 noteOf g (command bytes mail) (resetDone a) = nothing
-noteOf g (engineRequest n index psn state) (submitted a) = engineNote (engineFound g n index psn state) a
+noteOf g (engineRequest n index psn state) (submitted a) = submitNote [] (engineAsked g n index psn state) a
 noteOf g (engineRequest n index psn state) (stepped a) = nothing
 noteOf g (engineRequest n index psn state) (collected a out) = nothing
 noteOf g (engineRequest n index psn state) (resetDone a) = nothing
@@ -153,24 +166,25 @@ noteOf g (collection k buffer) (collected a out) = collectNote k out a
 noteOf g (collection k buffer) (resetDone a) = nothing
 noteOf g resetting a = nothing
 
--- ---- where demand 3 begins, and where a list of calls ends
+-- ---- where a list of calls begins, and where it ends
 
 abbrev pub isDone : SubmitAnswer → Bool
 isDone submit.Done = true
 isDone (submit.Accepted k) = false
 isDone (submit.Refused c) = false
 
-abbrev pub isInit : CommandFound → Bool
-isInit found.InitHca = true
-isInit found.CloseHca = false
-isInit found.Nop = false
-isInit (found.OnRecord c) = false
-isInit found.Wrong = false
+abbrev pub isInit : Asked → Bool
+isInit asksInit = true
+isInit asksClose = false
+isInit asksNop = false
+isInit (asksRequest q) = false
+isInit asksNothing = false
 
--- "An initialisation is an INIT_HCA that answers 0."
+-- An initialisation is an INIT_HCA that answers 0 (01, The plain book of demand 3).
 unfoldable pub initialises : World → List ℕ → List ℕ → Bool
-initialises w bytes mail = pick (isInit (commandFound (w .hca .logs) bytes)) (isDone (submitCommand w bytes mail .answer)) false
+initialises w bytes mail = pick (isInit (commandAsked (w .hca .logs) bytes)) (isDone (submitCommand w bytes mail .answer)) false
 
+-- a call that begins a list of calls: an initialisation, today
 abbrev pub begins : World → Call → Bool
 begins w (command bytes mail) = initialises w bytes mail
 begins w (engineRequest n index psn state) = false
@@ -178,7 +192,7 @@ begins w (step k) = false
 begins w (collection k out) = false
 begins w resetting = false
 
--- a list of calls ends before the next initialisation, or before a reset that answers 0
+-- a list of calls ends before a call that begins the next, or before a reset that answers 0
 abbrev pub resetEnds : ResetAnswer → Bool
 resetEnds reset.Done = true
 resetEnds (reset.Refused c) = false

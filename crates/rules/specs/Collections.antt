@@ -7,6 +7,7 @@ use Rattle.words.specs.Choice.{pick}
 use Rattle.words.specs.Parts.{splice}
 use Rattle.requests.specs.declared.Request.{Request}
 use Rattle.answers.specs.Answers.{answerOf, answerSize}
+use Rattle.bursts.specs.Room.{roomOf}
 use Rattle.slots.specs.Slots.{slot, freed}
 use Rattle.slots.specs.declared.Status.{Status}
 use Rattle.slots.specs.declared.Status.the-variants.{Free, Running, Finished}
@@ -14,7 +15,7 @@ use Rattle.rules.specs.declared.Refusal.{Refusal}
 use Rattle.rules.specs.declared.Refusal.the-variants as cause
 use Rattle.rules.specs.declared.CollectAnswer.{CollectAnswer}
 use Rattle.rules.specs.declared.CollectAnswer.the-variants as collect
-use Rattle.rules.specs.World.{World, world, roomOf, statusAt, badLent, badState}
+use Rattle.rules.specs.World.{World, withRow, statusAt, badLent, badState}
 
 pub record Collected : Type 0 where
   pub answer : CollectAnswer
@@ -31,16 +32,17 @@ collectRefused w out c = collected (collect.Refused c) w out
 unfoldable pub answerAt : World → ℕ → Request → List ℕ
 answerAt w k q = answerOf q (roomOf k (w .room))
 
--- "Collecting a finished slot frees it and writes the answer at the front of the lent buffer"; "collecting leaves the room
--- as it stands"; "collect: buffer shorter than the answer"
+-- what a collection of slot k leaves: the slot is free, the room stays (01, Bursts, slots and holds)
+unfoldable pub worldFreed : World → ℕ → World
+worldFreed w k = withRow w (set (w .row) k (freed (getD (w .row) k (slot Free))))
+
+-- The buffer holds the answer (01, Numbers returned, the 0x83 of collect), which is written at its front.
 unfoldable pub collectFinished : World → ℕ → List ℕ → Request → Collected
 collectFinished w k out q =
     pick (ltb (length out) (answerSize q)) (collectRefused w out cause.ShortBuffer)
-    (collected (collect.Collected (answerSize q))
-    (world (w .hca) (set (w .row) k (freed (getD (w .row) k (slot Free)))) (w .store) (w .room))
-    (splice 0 (answerAt w k q) out))
+    (collected (collect.Collected (answerSize q)) (worldFreed w k) (splice 0 (answerAt w k q) out))
 
--- "step or collect: no such slot, or free"; "collect of a running slot"
+-- There is such a slot, and its request is finished (01, Numbers returned, 0x84 and 0x86).
 unfoldable pub collectOn : World → ℕ → List ℕ → Status → Collected
 collectOn w k out Free = collectRefused w out cause.NoRequest
 collectOn w k out (Running m q) = collectRefused w out cause.StillRunning

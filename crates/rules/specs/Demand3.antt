@@ -1,16 +1,15 @@
 -- DEMAND 3.
 --
 -- What is claimed, and of what: of the rules in this crate (Commands, Engines, Steps, Collections, Resets), to which the model's
--- operations are to be proved equal. After every initialisation and every list of calls, each of which gets the state and the memory
--- that the call before left, up to the next initialisation or reset that answers 0: the finished requests, given one at a time
--- and whole to the plain book (Book) in the order of acceptance, are all accepted; every record that nobody is writing, every
--- answer, and every refusal because of a record's state is the book's. One statement about the whole list. The proof is in
--- Serial; it assumes nothing.
+-- operations are to be proved equal. After every call that begins a list (an initialisation), and every list of calls, each of which
+-- gets the state that the call before left and is lent as much of the memory as its caller likes, up to the next such call or reset that
+-- answers 0: the finished requests, given one at a time and whole to the plain book (Book) in the order of acceptance, are all
+-- accepted; every record that nobody is writing, every answer, and every refusal because of a record's state is the book's. One
+-- statement about the whole list. The proof is in Proofs/Serial; it assumes nothing.
 --
 -- What is not claimed: that a request is ever finished, or which calls are accepted: that is what the rules say, call by call. Nor
--- is anything claimed of calls between which the caller changes what it lends: such a call is one of another list. A reset in a
--- list answers 0 and ends it, since the row and the room are those that the initialisation tested; a refused call on other memory
--- changes nothing (`Refusals` in Frames).
+-- is anything claimed of calls between which somebody else writes the lent memory: such a call is one of another list. Calls that are
+-- refused for what they are lent, resets among them, are calls of the list and go on.
 use mathlib.Core.Path.{_≡_}
 use mathlib.Core.Bool.{true}
 use mathlib.Core.List.{List, [], _∷_, _++_}
@@ -18,16 +17,17 @@ use Prim.Native.Nat.{ℕ}
 use lib.Dec.{eqb}
 use lib.ListN.{replicate}
 use Rattle.words.specs.Choice.{pick}
-use Rattle.context.specs.Layout.{isRecord, bytesOf, recordSize}
+use Rattle.context.specs.Layout.{isRecord, recordSize}
 use Rattle.context.specs.declared.Record.{Record}
 use Rattle.request_table.specs.Records.{recordOf, writesOf}
+use Rattle.records.specs.Memory.{recordIn}
 use Rattle.slots.specs.declared.Status.{Status}
 use Rattle.slots.specs.declared.Status.the-variants.{Free, Running, Finished}
 use Rattle.rules.specs.World.{World, statusAt}
 use Rattle.rules.specs.Collections.{answerAt}
-use Rattle.rules.specs.Commands.{submitCommand}
-use Rattle.rules.specs.Book.{Book, Fed, onRecord, closeHca, nop, bookNumber, replyOf, afterOf}
-use Rattle.rules.specs.Calls.{Call, Note, nothing, refused, accepted, finished, emptied, answerTo, worldAfter, noteOf, stops, initialises}
+use Rattle.rules.specs.Book.{Book, Fed, onRecord, closeHca, nop, bookNumber, bookReply, bookAfter}
+use Rattle.rules.specs.Calls.{Note, nothing, refused, accepted, finished, emptied, noteOf}
+use Rattle.rules.specs.Lending.{LentCall, answerLent, worldLent, beginsLent, stopsLent, proper}
 
 -- ---- The journal: the requests of a list of calls in the order of submission, from the calls and their answers alone, and the
 -- counts of the initialisation, which no call of the list changes (`Counts` in Frames).
@@ -60,13 +60,13 @@ pub record Run : Type 0 where
   pub world : World
   pub journal : List Entry
 
--- each call gets the state, row, store and room that the call before left; the list ends before an initialisation or a reset that
--- answers 0
-abbrev pub runFrom : World → List Entry → List Call → Run
+-- each call gets the state and the memory that the call before left, as much of it as it is lent; the list ends before a call that
+-- begins another, or a reset that answers 0
+abbrev pub runFrom : World → List Entry → List LentCall → Run
 runFrom w J [] = record { world = w; journal = J }
 runFrom w J (c ∷ cs) =
-    pick (stops w c) (record { world = w; journal = J })
-    (runFrom (worldAfter w c) (noted (noteOf (w .hca .logs) c (answerTo w c)) J) cs)
+    pick (stopsLent w c) (record { world = w; journal = J })
+    (runFrom (worldLent w c) (noted (noteOf (w .hca .logs) (c .call) (answerLent w c)) J) cs)
 
 -- ---- What is said of a run
 
@@ -77,8 +77,8 @@ pub record Done : Type 0 where
 abbrev pub done : Fed → List ℕ → Done
 done f a = record { what = f; gave = a }
 
--- of a request in a slot: "finished by its last burst"; "Its answer is what collecting it wrote or, if uncollected, would write
--- to a buffer long enough."
+-- Of a request in a slot: it is finished by its last burst, and its answer is what collecting it wrote or, if it is uncollected, would
+-- write to a buffer long enough (01, The plain book of demand 3).
 abbrev pub inSlotDone : World → Fed → ℕ → Status → List Done → List Done
 inSlotDone w f k Free l = l
 inSlotDone w f k (Running m q) l = l
@@ -112,38 +112,43 @@ Unwritten w X (inSlot f k ∷ J) = NotWriting f X (statusAt k (w .row)) × Unwri
 -- the book, given requests one at a time, each whole
 abbrev pub given : Book → List Done → Book
 given b [] = b
-given b (d ∷ l) = given (afterOf (d .what) b) l
+given b (d ∷ l) = given (bookAfter (d .what) b) l
 
--- "It starts open, with the records that the initialisation left": a number past its count names no record, and has no bytes
+-- It starts open, with the records that the initialisation left; a number past its count names no record, and has no bytes.
 abbrev pub bookOf : World → Book
-bookOf w = record { opened = true; bytes = λ X. pick (isRecord (w .hca .logs) X) (bytesOf (w .hca .logs) X (w .store)) [] }
+bookOf w = record {
+  opened = true;
+  counts = w .hca .logs;
+  bytes = λ X. pick (isRecord (w .hca .logs) X) (recordIn (w .hca .logs) (w .memory) X) [];
+}
 
 -- ---- The claim, of a run that began with the book b and has come to the world w and the journal J
 
 pub record Demand3 (b : Book) (w : World) (J : List Entry) : Type 0 where
-  -- the book accepts every finished request, given those accepted before it: "The book accepts a request when it gives it no number."
+  -- the book accepts every finished request, given those accepted before it: it gives it no number
   pub accepts : (A B : List Done) (d : Done) → finishedIn w J ≡ A ++ d ∷ B → bookNumber (d .what) (given b A) ≡ 0
   -- every record that nobody is writing is the book's, byte for byte
   pub records : (X : Record) → isRecord (w .hca .logs) X ≡ true → Unwritten w X J
-      → bytesOf (w .hca .logs) X (w .store) ≡ given b (finishedIn w J) .bytes X
+      → recordIn (w .hca .logs) (w .memory) X ≡ given b (finishedIn w J) .bytes X
   -- the answer of every finished request is the book's
-  pub answers : (A B : List Done) (d : Done) → finishedIn w J ≡ A ++ d ∷ B → replyOf (d .what) (given b A) ≡ d .gave
-  -- "Refused because of its record's state": the same number from the book, given the finished requests accepted before it and no
+  pub answers : (A B : List Done) (d : Done) → finishedIn w J ≡ A ++ d ∷ B → bookReply (d .what) (given b A) ≡ d .gave
+  -- every refusal because of a record's state has the same number from the book, given the finished requests accepted before it and no
   -- others
   pub refusals : (A B : List Entry) (f : Fed) (n : ℕ) → J ≡ A ++ turnedAway f n ∷ B → bookNumber f (given b (finishedIn w A)) ≡ n
 
--- The statement: any store, row and room before the initialisation, any list of calls after it.
+-- The statement: any memory before the first call, which begins a list; any list of calls after it. What is compared at the end is the
+-- memory that every call of the list has to be lent (`proper`).
 abbrev pub Statement : Type 0
 Statement =
-    (before : World) (bytes mail : List ℕ) → initialises before bytes mail ≡ true
-    → (calls : List Call)
-    → let start : World = submitCommand before bytes mail .world in
+    (before : World) (first : LentCall) → beginsLent before first ≡ true
+    → (calls : List LentCall)
+    → let start : World = worldLent before first in
     let end : Run = runFrom start [] calls in
-    Demand3 (bookOf start) (end .world) (end .journal)
+    Demand3 (bookOf (proper start)) (proper (end .world)) (end .journal)
 
--- Of that book at its start: "by INIT_HCA all zero".
+-- Of that book at its start: after INIT_HCA every record is zero.
 abbrev pub Zeroed : Type 0
 Zeroed =
-    (before : World) (bytes mail : List ℕ) → initialises before bytes mail ≡ true
-    → let start : World = submitCommand before bytes mail .world in
-    (X : Record) → isRecord (start .hca .logs) X ≡ true → bookOf start .bytes X ≡ replicate (recordSize X) 0
+    (before : World) (first : LentCall) → beginsLent before first ≡ true
+    → let start : World = worldLent before first in
+    (X : Record) → isRecord (start .hca .logs) X ≡ true → bookOf (proper start) .bytes X ≡ replicate (recordSize X) 0

@@ -1,40 +1,49 @@
 -- FRAME: what a call changes, and what it leaves.
 --
 -- What is claimed, for every world and every call:
--- * `Refusals`: a refusal changes nothing, neither state, row, store and room nor the buffer.
+-- * `Refusals`: a refusal changes nothing, neither state, row, memory and room nor the buffer.
+-- * `Steps`, `Collects`: a step that is not refused answers the bursts that are then left, the burst table's total less those moved, and
+--   its slot runs with one burst more, or is finished with all; a collection that is not refused answers the length of the answer, writes
+--   the answer at the front of the buffer, and frees its slot.
 -- * `Written`, `Copied`: a step that is not refused makes exactly the next burst of its request, a write in its record by the byte
---   rule, leaving the room, a read as a copy in the slot's part of the room, leaving the store.
+--   rule, leaving the room, a read as a copy in the slot's part of the room, leaving the memory.
 -- * `BurstsWhole`, `BurstsRead`: all bursts of a request make its whole effect, or all that its answer reads.
--- * `Records`, `Elsewhere`, `Behind`: nothing else in the store. Of every record, a call other than an initialisation makes nothing,
---   or the burst of a running request that writes it; no byte outside that burst changes; and bytes behind the records in use never
---   change, by an initialisation neither.
--- * `Taken`, `Rooms`: a submission that is accepted puts the needed front of its mailbox at the front of its slot's part of the room
+-- * `Records`, `Elsewhere`, `BehindKept`: nothing else in the store. Of every record, a call other than an initialisation makes nothing,
+--   or the burst of a running request that writes it; no byte outside that burst changes; and bytes behind the records never change, by
+--   an initialisation neither.
+-- * `SlotTaken`, `Rooms`: a submission that is accepted puts the needed front of its mailbox at the front of its slot's part of the room
 --   and leaves the rest of the part; no call changes a byte in the part of a slot that it neither takes nor steps.
 -- * `Rows`, `Emptied`: a call changes no slot but the one that it takes, steps or collects; a reset that answers 0 empties all, and
 --   closes.
 -- * `Opens`, `Counts`: a call that is not done at once, as INIT_HCA, CLOSE_HCA, NOP and reset are, leaves the state; and only an
 --   initialisation changes the counts and the length that it remembers.
 -- * `Buffers`, `Sizes`: a collection changes no byte of the buffer behind its answer; row, store, room and buffer keep their lengths.
+-- * `MailboxFront`, `RegisterFront`, `RoomFront`: no answer and nothing left depends on the mailbox behind the needed bytes, on the HCR
+--   behind its 28, or on the room behind its eight parts.
 --
 -- What is not claimed here: which calls are refused, and with which number; that is what the rules say.
 use mathlib.Core.Path.{_≡_}
 use mathlib.Core.Bool.{Bool, true, false}
-use mathlib.Core.List.{List}
-use Prim.Native.Nat.{ℕ, _+_, _/_, _≤_, _<_}
-use lib.Dec.{eqb}
+use mathlib.Core.List.{List, _++_}
+use Prim.Native.Nat.{ℕ, _+_, _-_, _/_, _≤_, _<_}
+use lib.Dec.{eqb, ltb}
 use lib.ListN.{length, getD}
+use Rattle.words.specs.Choice.{pick}
 use Rattle.words.specs.Parts.{splice}
-use Rattle.context.specs.Layout.{isRecord, bytesOf, recordSize, inUse}
+use Rattle.context.specs.Layout.{isRecord, recordSize}
 use Rattle.context.specs.declared.Record.{Record}
 use Rattle.requests.specs.declared.Request.{Request}
-use Rattle.request_table.specs.Records.{recordOf, writesOf}
-use Rattle.request_table.specs.Mailboxes.{needOf}
+use Rattle.request_table.specs.Records.{recordOf, recordsOf, writesOf}
+use Rattle.mailboxes.specs.Mailboxes.{needOf}
 use Rattle.burst_table.specs.Bursts.{burstsOf, totalOf}
+use Rattle.burst_table.specs.Sizes.{slotRoom, roomSize}
+use Rattle.answers.specs.Answers.{answerOf, answerSize}
 use Rattle.byte_rule.specs.Bytes.{byteOf}
-use Rattle.answers.specs.Answers.{answerOf}
 use Rattle.bursts.specs.Bursts.{burst, after}
 use Rattle.bursts.specs.Copies.{copy, copies}
-use Rattle.slots.specs.declared.Status.the-variants.{Free, Running}
+use Rattle.bursts.specs.Room.{roomOf, frontOf}
+use Rattle.records.specs.Memory.{recordIn, joinedIn, InBurst, Behind}
+use Rattle.slots.specs.declared.Status.the-variants.{Free, Running, Finished}
 use Rattle.rules.specs.declared.SubmitAnswer.{SubmitAnswer}
 use Rattle.rules.specs.declared.SubmitAnswer.the-variants as submit
 use Rattle.rules.specs.declared.StepAnswer.{StepAnswer}
@@ -43,12 +52,15 @@ use Rattle.rules.specs.declared.CollectAnswer.{CollectAnswer}
 use Rattle.rules.specs.declared.CollectAnswer.the-variants as collecting
 use Rattle.rules.specs.declared.ResetAnswer.{ResetAnswer}
 use Rattle.rules.specs.declared.ResetAnswer.the-variants as resets
-use Rattle.rules.specs.World.{World, slotRoom, roomOf, frontOf, statusAt}
-use Rattle.rules.specs.Steps.{burstAt, stepOf}
-use Rattle.rules.specs.Collections.{collectOf}
+use Rattle.rules.specs.World.{World, withRoom, statusAt}
+use Rattle.rules.specs.Commands.{submitCommand}
+use Rattle.rules.specs.Steps.{stepOf}
+use Rattle.rules.specs.Collections.{answerAt, collectOf}
 use Rattle.rules.specs.Whole.{wholeEffect}
 use Rattle.rules.specs.Book.{onRecord}
-use Rattle.rules.specs.Calls.{Call, command, engineRequest, step, collection, resetting, Answer, submitted, stepped, collected, resetDone, accepted, answerTo, worldAfter, noteOf, isDone, begins, resetEnds}
+use Rattle.rules.specs.Calls.{Call, command, engineRequest, step, collection, resetting, Answer, submitted, stepped}
+use Rattle.rules.specs.Calls.{collected, resetDone, Asked, asksInit, asksClose, asksNop, asksRequest, asksNothing}
+use Rattle.rules.specs.Calls.{accepted, answerTo, worldAfter, commandAsked, noteOf, isDone, begins, resetEnds}
 
 -- ---- a refusal
 
@@ -89,28 +101,51 @@ bufferAfter (stepped a) l = l
 bufferAfter (collected a out) l = out
 bufferAfter (resetDone a) l = l
 
--- "Every refusal returns its number alone and leaves everything."
+-- Every refusal returns its number alone and leaves everything (01, Numbers returned).
 abbrev pub Refusals : Type 0
-Refusals = (w : World) (c : Call) (l : List ℕ) → refusedBy (answerTo w c) ≡ true → (worldAfter w c ≡ w) × (bufferAfter (answerTo w c) l ≡ bufferOf c l)
+Refusals =
+    (w : World) (c : Call) (l : List ℕ) → refusedBy (answerTo w c) ≡ true
+    → (worldAfter w c ≡ w) × (bufferAfter (answerTo w c) l ≡ bufferOf c l)
+
+-- ---- a step and a collection, in the slot that they name
+
+-- q runs in slot k with m bursts moved, and the step is not refused: its answer has the bursts still to move, and the last burst finishes
+-- the request (01, Bursts, slots and holds)
+abbrev pub Steps : Type 0
+Steps =
+    (w : World) (k : ℕ) (q : Request) (m : ℕ) → statusAt k (w .row) ≡ Running m q → refusedStep (stepOf w k .answer) ≡ false
+    → (stepOf w k .answer ≡ stepping.Left (totalOf q - (m + 1)))
+    × (statusAt k (stepOf w k .world .row) ≡ pick (ltb (m + 1) (totalOf q)) (Running (m + 1) q) (Finished (totalOf q) q))
+
+-- q is finished in slot k, and the collection is not refused
+abbrev pub Collects : Type 0
+Collects =
+    (w : World) (k : ℕ) (out : List ℕ) (q : Request) (m : ℕ) → statusAt k (w .row) ≡ Finished m q
+    → refusedCollect (collectOf w k out .answer) ≡ false
+    → (collectOf w k out .answer ≡ collecting.Collected (answerSize q))
+    × (statusAt k (collectOf w k out .world .row) ≡ Free)
+    × (collectOf w k out .out ≡ splice 0 (answerAt w k q) out)
 
 -- ---- the records
 
--- "A step names a slot and moves one 16-byte burst of that request"; "Exactly that burst of the record is changed or copied": q runs
--- in slot k with m bursts moved, and the step is not refused. Of a write, by the byte rule, with the mailbox bytes in the room:
+-- A step moves one burst of its slot's request, and exactly that burst of the record is changed or copied (01, Bursts, slots and holds).
+-- Of a write, by the byte rule, with the mailbox bytes in the room:
 abbrev pub Written : Type 0
 Written =
-    (w : World) (k : ℕ) (q : Request) (m : ℕ) → statusAt k (w .row) ≡ Running m q → refusedStep (stepOf w k .answer) ≡ false → writesOf q ≡ true
-    → (bytesOf (w .hca .logs) (recordOf q) (stepOf w k .world .store)
-    ≡ burst (byteOf q (frontOf k q (w .room))) (getD (burstsOf q) m 0) (bytesOf (w .hca .logs) (recordOf q) (w .store)))
+    (w : World) (k : ℕ) (q : Request) (m : ℕ) → statusAt k (w .row) ≡ Running m q → refusedStep (stepOf w k .answer) ≡ false
+    → writesOf q ≡ true
+    → (recordIn (w .hca .logs) (stepOf w k .world .memory) (recordOf q)
+    ≡ burst (byteOf q (frontOf k q (w .room))) (getD (burstsOf q) m 0) (recordIn (w .hca .logs) (w .memory) (recordOf q)))
     × (stepOf w k .world .room ≡ w .room)
 
--- "A read burst is copied to the offset in that part which it has in the record."
+-- Of a read, to the offset in the slot's part of the room that the burst has in the request's records:
 abbrev pub Copied : Type 0
 Copied =
-    (w : World) (k : ℕ) (q : Request) (m : ℕ) → statusAt k (w .row) ≡ Running m q → refusedStep (stepOf w k .answer) ≡ false → writesOf q ≡ false
+    (w : World) (k : ℕ) (q : Request) (m : ℕ) → statusAt k (w .row) ≡ Running m q → refusedStep (stepOf w k .answer) ≡ false
+    → writesOf q ≡ false
     → (roomOf k (stepOf w k .world .room)
-    ≡ copy (getD (burstsOf q) m 0) (bytesOf (w .hca .logs) (recordOf q) (w .store)) (roomOf k (w .room)))
-    × (stepOf w k .world .store ≡ w .store)
+    ≡ copy (getD (burstsOf q) m 0) (joinedIn (w .hca .logs) (w .memory) (recordsOf q)) (roomOf k (w .room)))
+    × (stepOf w k .world .memory ≡ w .memory)
 
 -- All bursts of a write, one after the other, make its whole effect, as the book has it; of a read, the room then answers as the
 -- record does.
@@ -128,35 +163,39 @@ BurstsRead =
 -- of it by the byte rule.
 pub data Change (w : World) (c : Call) (X : Record) (before after : List ℕ) : Type 0 where
   kept : after ≡ before → Change w c X before after
-  burstMoved : (k : ℕ) (q : Request) (m : ℕ) → c ≡ step k → statusAt k (w .row) ≡ Running m q → m < totalOf q → writesOf q ≡ true → recordOf q ≡ X
-      → length before ≡ recordSize X
+  burstMoved : (k : ℕ) (q : Request) (m : ℕ) → c ≡ step k → statusAt k (w .row) ≡ Running m q → m < totalOf q → writesOf q ≡ true
+      → recordOf q ≡ X → length before ≡ recordSize X
       → after ≡ burst (byteOf q (frontOf k q (w .room))) (getD (burstsOf q) m 0) before → Change w c X before after
 
 abbrev pub Records : Type 0
 Records =
     (w : World) (c : Call) → begins w c ≡ false → (X : Record) → isRecord (w .hca .logs) X ≡ true
-    → Change w c X (bytesOf (w .hca .logs) X (w .store)) (bytesOf (w .hca .logs) X (worldAfter w c .store))
+    → Change w c X (recordIn (w .hca .logs) (w .memory) X) (recordIn (w .hca .logs) (worldAfter w c .memory) X)
 
--- "nothing else in the store": byte i lies in the burst that a step writes
-pub data InBurst (w : World) (i : ℕ) : Call → Type 0 where
-  inBurst : (k : ℕ) (q : Request) (m : ℕ) → statusAt k (w .row) ≡ Running m q → writesOf q ≡ true → burstAt w q m ≤ i → i < burstAt w q m + 16
-      → InBurst w i (step k)
+-- Nothing else in the store changes: byte i lies in the burst that a step writes.
+pub data Changes (w : World) (i : ℕ) : Call → Type 0 where
+  inBurst : (k : ℕ) (q : Request) (m : ℕ) → statusAt k (w .row) ≡ Running m q → writesOf q ≡ true → InBurst (w .hca .logs) q m i
+      → Changes w i (step k)
 
 abbrev pub Elsewhere : Type 0
-Elsewhere = (w : World) (c : Call) → begins w c ≡ false → (i : ℕ) → ¬ InBurst w i c → getD (worldAfter w c .store) i 0 ≡ getD (w .store) i 0
+Elsewhere =
+    (w : World) (c : Call) → begins w c ≡ false → (i : ℕ) → ¬ Changes w i c
+    → getD (worldAfter w c .memory .store) i 0 ≡ getD (w .memory .store) i 0
 
--- INIT_HCA "zeroes the bytes in use, leaves the others": those behind the records in use
-abbrev pub Behind : Type 0
-Behind =
-    (w : World) (c : Call) (i : ℕ) → inUse (worldAfter w c .hca .logs) ≤ i → getD (worldAfter w c .store) i 0 ≡ getD (w .store) i 0
+-- INIT_HCA leaves the bytes that are not in use (01, The context store), and no other call changes them: those behind the records
+abbrev pub BehindKept : Type 0
+BehindKept =
+    (w : World) (c : Call) (i : ℕ) → Behind (worldAfter w c .hca .logs) i
+    → getD (worldAfter w c .memory .store) i 0 ≡ getD (w .memory .store) i 0
 
 -- ---- the slots and the room
 
--- "puts the needed mailbox bytes at the front of the slot's part of the room, and takes the lowest free slot": q, fed with the needed
--- front of the mailbox, was accepted into slot k
-abbrev pub Taken : Type 0
-Taken =
-    (w : World) (c : Call) (q : Request) (front : List ℕ) (k : ℕ) → noteOf (w .hca .logs) c (answerTo w c) ≡ accepted (onRecord q front) k
+-- Submission puts the needed mailbox bytes at the front of the slot's part of the room, and takes the lowest free slot (01, Bursts, slots
+-- and holds): q, fed with the needed front of the mailbox, was accepted into slot k.
+abbrev pub SlotTaken : Type 0
+SlotTaken =
+    (w : World) (c : Call) (q : Request) (front : List ℕ) (k : ℕ)
+    → noteOf (w .hca .logs) c (answerTo w c) ≡ accepted (onRecord q front) k
     → (statusAt k (worldAfter w c .row) ≡ Running 0 q) × (roomOf k (worldAfter w c .room) ≡ splice 0 front (roomOf k (w .room)))
 
 -- the slot that a submission takes
@@ -184,7 +223,8 @@ collectsSlot (step k) j = false
 collectsSlot (collection k out) j = eqb k j
 collectsSlot resetting j = false
 
--- "No other room byte changes, and collecting leaves the room as it stands.": byte i lies in the part of slot i / 256, if there is one
+-- No other room byte changes, and collecting leaves the room as it stands (01, the same section): byte i lies in the part of slot
+-- i / slotRoom, if there is one.
 abbrev pub Rooms : Type 0
 Rooms =
     (w : World) (c : Call) (i : ℕ) → takesSlot (answerTo w c) (i / slotRoom) ≡ false → stepsSlot c (i / slotRoom) ≡ false
@@ -199,10 +239,10 @@ empties (resetDone a) = resetEnds a
 
 abbrev pub Rows : Type 0
 Rows =
-    (w : World) (c : Call) (j : ℕ) → empties (answerTo w c) ≡ false → takesSlot (answerTo w c) j ≡ false → stepsSlot c j ≡ false → collectsSlot c j ≡ false
-    → statusAt j (worldAfter w c .row) ≡ statusAt j (w .row)
+    (w : World) (c : Call) (j : ℕ) → empties (answerTo w c) ≡ false → takesSlot (answerTo w c) j ≡ false → stepsSlot c j ≡ false
+    → collectsSlot c j ≡ false → statusAt j (worldAfter w c .row) ≡ statusAt j (w .row)
 
--- "empties all slots and closes"
+-- it empties all slots and closes
 abbrev pub Emptied : Type 0
 Emptied =
     (w : World) (c : Call) → empties (answerTo w c) ≡ true
@@ -228,16 +268,46 @@ Counts =
 abbrev pub Sizes : Type 0
 Sizes =
     (w : World) (c : Call)
-    → (length (worldAfter w c .row) ≡ length (w .row)) × ((length (worldAfter w c .store) ≡ length (w .store)) × (length (worldAfter w c .room) ≡ length (w .room)))
+    → (length (worldAfter w c .row) ≡ length (w .row))
+    × (length (worldAfter w c .memory .store) ≡ length (w .memory .store))
+    × (length (worldAfter w c .room) ≡ length (w .room))
 
 -- how many bytes of the buffer an answer has
 abbrev pub answerBytes : CollectAnswer → ℕ
 answerBytes (collecting.Collected n) = n
 answerBytes (collecting.Refused c) = 0
 
--- "writes the answer at the front of the lent buffer"
+-- the answer is written at the front of the lent buffer, and the rest of it stays
 abbrev pub Buffers : Type 0
 Buffers =
     (w : World) (k : ℕ) (out : List ℕ)
     → (length (collectOf w k out .out) ≡ length out)
     × ((i : ℕ) → answerBytes (collectOf w k out .answer) ≤ i → getD (collectOf w k out .out) i 0 ≡ getD out i 0)
+
+-- ---- only the needed front is read
+
+-- the mailbox bytes that a submission needs, by what it asks for; INIT_HCA's are 64 (01, The context store)
+abbrev pub neededBy : Asked → ℕ
+neededBy asksInit = 64
+neededBy asksClose = 0
+neededBy asksNop = 0
+neededBy (asksRequest q) = needOf q
+neededBy asksNothing = 0
+
+-- Longer mailboxes are accepted and only the needed front is read (01, Commands).
+abbrev pub MailboxFront : Type 0
+MailboxFront =
+    (w : World) (bytes mail tail : List ℕ) → neededBy (commandAsked (w .hca .logs) bytes) ≤ length mail
+    → submitCommand w bytes (mail ++ tail) ≡ submitCommand w bytes mail
+
+-- The register is its first 28 bytes (01, The command register).
+abbrev pub RegisterFront : Type 0
+RegisterFront =
+    (w : World) (bytes tail mail : List ℕ) → 28 ≤ length bytes → submitCommand w (bytes ++ tail) mail ≡ submitCommand w bytes mail
+
+-- The room is its eight parts: what stands behind them is neither looked at nor changed.
+abbrev pub RoomFront : Type 0
+RoomFront =
+    (w : World) (tail : List ℕ) (c : Call) → roomSize ≤ length (w .room)
+    → (answerTo (withRoom w (w .room ++ tail)) c ≡ answerTo w c)
+    × (worldAfter (withRoom w (w .room ++ tail)) c ≡ withRoom (worldAfter w c) (worldAfter w c .room ++ tail))

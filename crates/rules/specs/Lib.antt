@@ -1,6 +1,6 @@
 -- The rules of document 01 as definitions on values and lists, and the demands as theorems about them.
 --
--- The rules: the numbers returned, what is lent, and the calls; each definition stands under the sentence that it states.
+-- The rules: the numbers returned, what is lent, and the calls; each definition has its rule above it, with the section of 01.
 pub mod Numbers
 pub mod World
 pub mod Admission
@@ -14,15 +14,14 @@ pub mod Whole
 pub mod Book
 -- What is claimed of them.
 pub mod Calls
+pub mod Lending
 pub mod Demand2
 pub mod Demand3
 pub mod Frames
 pub mod Theorems
--- The rules at work, by computation: document 01's examples; lists of calls with their answers.
-pub mod Examples
+-- Calls whose answers are written out by hand from document 01, and computed.
 pub mod Scripts
-pub mod Worked
-pub mod Closing
 pub mod Order
--- How it is proved.
+-- The laws that operations stand on, and the proofs.
+pub mod Laws
 pub mod Proofs

@@ -1,6 +1,9 @@
--- Document 01, "Numbers returned": the number of each cause, and the numbers of the answers.
+-- 01, Numbers returned: the number of each cause, and for each answer its number and the values that it has.
 use mathlib.Core.Bool.{Bool, true, false}
+use mathlib.Core.List.{List, [], _∷_}
 use Prim.Native.Nat.{ℕ}
+use lib.ListN.{take}
+use Rattle.checks.specs.Verdicts.{denialNumber}
 use Rattle.rules.specs.declared.Refusal.{Refusal}
 use Rattle.rules.specs.declared.Refusal.the-variants as cause
 use Rattle.rules.specs.declared.SubmitAnswer.{SubmitAnswer}
@@ -12,7 +15,7 @@ use Rattle.rules.specs.declared.CollectAnswer.the-variants as collect
 use Rattle.rules.specs.declared.ResetAnswer.{ResetAnswer}
 use Rattle.rules.specs.declared.ResetAnswer.the-variants as reset
 
--- the table, top to bottom
+-- the causes in the order of the table, top to bottom; two may share a number
 abbrev pub refusalNumber : Refusal → ℕ
 refusalNumber cause.BadLength = 0x83
 refusalNumber cause.Impossible = 0x87
@@ -27,28 +30,43 @@ refusalNumber cause.BadParameter = 3
 refusalNumber cause.ShortMailbox = 0x83
 refusalNumber cause.BadContent = 3
 refusalNumber cause.Held = 0x81
-refusalNumber cause.NotPermitted = 0x85
+refusalNumber (cause.Denied d) = denialNumber d
 refusalNumber cause.Full = 0x82
 
--- "0 means done or accepted"
+-- 0 means done or accepted. An acceptance also gives the slot.
 abbrev pub submitNumber : SubmitAnswer → ℕ
 submitNumber submit.Done = 0
 submitNumber (submit.Accepted k) = 0
 submitNumber (submit.Refused c) = refusalNumber c
 
+abbrev pub submitValues : SubmitAnswer → List ℕ
+submitValues submit.Done = []
+submitValues (submit.Accepted k) = k ∷ []
+submitValues (submit.Refused c) = []
+
+-- A step gives the bursts still to move.
 abbrev pub stepNumber : StepAnswer → ℕ
 stepNumber (step.Left n) = 0
 stepNumber (step.Refused c) = refusalNumber c
 
+abbrev pub stepValues : StepAnswer → List ℕ
+stepValues (step.Left n) = n ∷ []
+stepValues (step.Refused c) = []
+
+-- A collection gives the bytes of the answer, which stand at the front of the buffer.
 abbrev pub collectNumber : CollectAnswer → ℕ
 collectNumber (collect.Collected n) = 0
 collectNumber (collect.Refused c) = refusalNumber c
+
+abbrev pub collectValues : CollectAnswer → List ℕ → List ℕ
+collectValues (collect.Collected n) out = take n out
+collectValues (collect.Refused c) out = []
 
 abbrev pub resetNumber : ResetAnswer → ℕ
 resetNumber reset.Done = 0
 resetNumber (reset.Refused c) = refusalNumber c
 
--- "Refused because of its record's state means: edge not permitted or wrong owner"
+-- Which causes are the record's state: the edge is not permitted, or the owner is the wrong one (01, The plain book of demand 3).
 abbrev pub forState : Refusal → Bool
 forState cause.BadLength = false
 forState cause.Impossible = false
@@ -63,5 +81,5 @@ forState cause.BadParameter = false
 forState cause.ShortMailbox = false
 forState cause.BadContent = false
 forState cause.Held = false
-forState cause.NotPermitted = true
+forState (cause.Denied d) = true
 forState cause.Full = false

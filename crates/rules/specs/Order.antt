@@ -1,10 +1,9 @@
--- Document 01, "Order of checks: top to bottom, the first that applies.": calls to which two rows of the table of refusals apply, and
--- calls that one row just refuses or just lets pass, each tried alone in a state that is handed in. The answers are written out by hand
--- from document 01.
+-- The order of the checks (01, Numbers returned): calls to which two rows of the table of refusals apply, and calls that one row just
+-- refuses or just lets pass, each tried alone in a state that is handed in. The answers are written out by hand from document 01.
 use mathlib.Core.Path.{_≡_, refl}
 use mathlib.Core.Bool.{Bool, true, false, not}
 use mathlib.Core.List.{List, [], _∷_, _++_, map}
-use Prim.Native.Nat.{ℕ}
+use Prim.Native.Nat.{ℕ, _-_}
 use lib.Dec.{eqb}
 use lib.ListN.{getD, take, replicate}
 use Rattle.context.specs.declared.Logs.{Logs}
@@ -14,17 +13,20 @@ use Rattle.requests.specs.declared.Command.the-variants as on
 use Rattle.requests.specs.declared.EngineRequest.the-variants as engine
 use Rattle.requests.specs.declared.Request.{Request}
 use Rattle.requests.specs.declared.Request.the-variants as request
+use Rattle.burst_table.specs.Sizes.{roomSize}
 use Rattle.slots.specs.Slots.{slot}
-use Rattle.rows.specs.Rows.{emptyRow}
 use Rattle.slots.specs.declared.Slot.{Slot}
 use Rattle.slots.specs.declared.Status.{Status}
 use Rattle.slots.specs.declared.Status.the-variants.{Free, Running, Finished}
-use Rattle.rules.specs.World.{World, world, hcaOf}
+use Rattle.rows.specs.Rows.{emptyRow}
+use Rattle.records.specs.Memory.{memory}
+use Rattle.rules.specs.World.{World, withHca, withRow, withMemory, withRoom, hcaOf}
 use Rattle.rules.specs.Calls.{Call, command, engineRequest, step, collection, resetting, answerTo, worldAfter}
 use Rattle.rules.specs.Frames.{refusedBy}
-use Rattle.rules.specs.Scripts.{Line, _gets_, callsOf, givenBy, shown, hcrOf, asks, initMail, image, before, start, everything}
+use Rattle.rules.specs.Scripts.{Line, _gets_, callsOf, givenBy, shown, everything}
+use Rattle.rules.specs.Scripts.{storeThere, hcrOf, asks, initMail, image, before, start}
 
--- a state, and calls that are each tried in it
+-- a state, and calls that are each tried in it, with all of it
 pub record Group : Type 0 where
   pub at : World
   pub lines : List Line
@@ -39,11 +41,15 @@ alone w (c ∷ cs) = shown (answerTo w c) ∷ alone w cs
 -- ---- the states
 
 abbrev pub rowed : List Slot → World
-rowed row = world (start .hca) row (start .store) (start .room)
+rowed row = withRow start row
+
+-- the store that was initialised, with bytes before it
+abbrev pub stored : List ℕ → World
+stored more = withMemory start (memory (more ++ start .memory .store))
 
 -- open or closed, with these counts and these two slots; the others are free
 abbrev pub handed : Bool → Logs → Status → Status → World
-handed o g s t = world (hcaOf o g 800) (slot s ∷ slot t ∷ replicate 6 (slot Free)) (start .store) (start .room)
+handed o g s t = withHca (rowed (slot s ∷ slot t ∷ replicate 6 (slot Free))) (hcaOf o g storeThere)
 
 abbrev pub counts : Logs
 counts = record { qps = 1; cqs = 1; eqs = 0; mpts = 0 }
@@ -67,7 +73,7 @@ reading = worldAfter start (engineRequest 2 0 0 0)
 unfoldable pub hasRead : World
 hasRead = worldAfter (worldAfter reading (step 0)) (step 0)
 
--- ---- 0x83 and 0x87, for each of the five calls: NOP, request 1, step, collection, reset
+-- ---- the first 0x83 and 0x87, for each of the five calls: NOP, request 1, step, collection, reset
 
 abbrev pub five : List ℕ → List ℕ → List ℕ → List ℕ → List ℕ → List Line
 five a b c d e =
@@ -76,7 +82,7 @@ five a b c d e =
 abbrev pub short : List Line
 short = five (0x83 ∷ []) (0x83 ∷ []) (0x83 ∷ []) (0x83 ∷ []) (0x83 ∷ [])
 
--- "Reset tests only row and room"
+-- reset tests neither the store nor the state (01, Bursts, slots and holds)
 abbrev pub wrongStore : List Line
 wrongStore = five (0x83 ∷ []) (0x83 ∷ []) (0x83 ∷ []) (0x83 ∷ []) (0 ∷ [])
 
@@ -87,26 +93,30 @@ unfoldable pub handedIn : List Group
 handedIn =
     within start (five (0 ∷ []) (0 ∷ 0 ∷ []) (0x84 ∷ []) (0x84 ∷ []) (0 ∷ []))
     ∷ within before (five (0 ∷ []) (4 ∷ []) (0x84 ∷ []) (0x84 ∷ []) (0 ∷ []))
-    -- "row not 8, room below 2,048, or, while open, store length not that of INIT_HCA"
+    -- seven slots, nine slots, a room that is one byte too short
     ∷ within (rowed (take 7 emptyRow)) short
     ∷ within (rowed (slot Free ∷ emptyRow)) short
-    ∷ within (world (start .hca) emptyRow (start .store) (replicate 2047 0)) short
-    ∷ within (world (start .hca) emptyRow (0 ∷ start .store) (start .room)) wrongStore
-    ∷ within (world (before .hca) (slot (Running 0 (readState 0)) ∷ take 6 emptyRow) (start .store) (start .room)) short
-    -- "closed with an occupied slot"
+    ∷ within (withRoom start (replicate (roomSize - 1) 0)) short
+    -- a store that is one byte longer than at INIT_HCA, or one byte shorter, while open; while closed its length is not tested
+    ∷ within (stored (0 ∷ [])) wrongStore
+    ∷ within (withMemory start (memory (take (storeThere - 1) (start .memory .store)))) wrongStore
+    ∷ within (withHca (stored (0 ∷ [])) (before .hca)) (five (0 ∷ []) (4 ∷ []) (0x84 ∷ []) (0x84 ∷ []) (0 ∷ []))
+    -- seven slots, and an impossible state: closed with an occupied slot
+    ∷ within (withHca (rowed (slot (Running 0 (readState 0)) ∷ take 6 emptyRow)) (before .hca)) short
+    -- closed with an occupied slot
     ∷ within (handed false counts (Running 0 (readState 0)) Free) wrongState
-    -- "open with counts past their ranges or the store"
+    -- open with counts past their ranges, or past the store
     ∷ within (handed true (record { qps = 0; cqs = 0; eqs = 6; mpts = 0 }) Free Free) wrongState
     ∷ within (handed true (record { qps = 1; cqs = 1; eqs = 1; mpts = 0 }) Free Free) wrongState
-    -- "a slot's request .. whose .. index, PSN .. would get 2 or 3"
+    -- an index and a PSN that would get 3
     ∷ within (handed true counts Free (Running 0 (readState 2))) wrongState
     ∷ within (handed true counts Free (Running 0 (write 0 0x1000000))) wrongState
-    -- "bursts moved not below (running) or not equal to (finished) its total"
+    -- running with no burst left to move, finished with one
     ∷ within (handed true counts Free (Running 2 (write 0 0))) wrongState
     ∷ within (handed true counts Free (Finished 1 (write 0 0))) wrongState
-    -- "two occupied slots with commands"
+    -- two commands
     ∷ within (handed true counts (Running 0 (query 0)) (Finished 16 (query 1))) wrongState
-    -- "running slots whose holds clash"
+    -- a reader and a writer of one record
     ∷ within (handed true counts (Running 0 (readState 0)) (Running 0 (write 0 0))) wrongState
     ∷ []
 
@@ -118,7 +128,7 @@ typed2 = 0 ∷ 2 ∷ replicate 162 0
 
 unfoldable pub below87 : List Group
 below87 =
-    -- "HCR below 28" comes before an impossible state, which comes before the rest
+    -- a register of 27 bytes comes before an impossible state, which comes before the rest
     within (handed false counts (Running 0 (readState 0)) Free)
     (command (replicate 27 0) [] gets (0x83 ∷ [])
     ∷ command (replicate 28 0) [] gets (0x87 ∷ [])
@@ -126,7 +136,7 @@ below87 =
     ∷ step 8 gets (0x87 ∷ [])
     ∷ collection 8 [] gets (0x87 ∷ [])
     ∷ [])
-    -- closed: "HCR not well formed", "E is 1", then "not served", then "while closed", and only then the modifiers
+    -- closed: a register that is not well formed or has E, then an op that is not served, then 4, and only then the modifiers
     ∷ within before
     (command (replicate 27 0) [] gets (0x83 ∷ [])
     ∷ command (replicate 28 0) [] gets (3 ∷ [])
@@ -145,7 +155,7 @@ below87 =
     ∷ asks 0x07 0 (replicate 64 2) gets (3 ∷ [])
     ∷ asks 0x07 0 (initMail ++ initMail) gets (0 ∷ [])
     ∷ [])
-    -- a command is uncollected: "INIT_HCA while open" comes before it, the modifiers behind it
+    -- a command is uncollected: INIT_HCA while open comes before it, the modifiers behind it
     ∷ within commanded
     (asks 0x18 0 [] gets (2 ∷ [])
     ∷ asks 0x07 1 [] gets (4 ∷ [])
@@ -176,6 +186,14 @@ below87 =
     ∷ step 0 gets (0x84 ∷ [])
     ∷ asks 0x08 0 [] gets (0x81 ∷ [])
     ∷ asks 0x19 0 image gets (0 ∷ 1 ∷ [])
+    ∷ [])
+    -- the row is full: a record that is held and one that denies the request come before that, and NOP needs no slot
+    ∷ within (rowed (replicate 8 (slot (Running 0 (readState 0)))))
+    (asks 0x31 0 [] gets (0 ∷ [])
+    ∷ asks 0x1b 0 image gets (0x81 ∷ [])
+    ∷ asks 0x17 0 [] gets (0x85 ∷ [])
+    ∷ asks 0x22 1 [] gets (0x82 ∷ [])
+    ∷ engineRequest 1 1 0 0 gets (0x82 ∷ [])
     ∷ [])
     -- nothing is under way: the modifiers and numbers before the mailbox's length, that before its content, that before the owner
     ∷ within start

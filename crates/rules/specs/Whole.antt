@@ -9,7 +9,8 @@ use Rattle.edges.specs.States.{stateCode}
 use Rattle.edges.specs.declared.State.{State}
 use Rattle.edges.specs.declared.State.the-variants.{Init, Rtr, Rts, Sqd, Err}
 use Rattle.edges.specs.declared.Edge.{Edge}
-use Rattle.edges.specs.declared.Edge.the-variants.{ResetToInit, InitToInit, InitToRtr, RtrToRts, RtsToRts, SqeToRts, RtsToSqd, SqdToSqd, SqdToRts, ToErr, ToReset}
+use Rattle.edges.specs.declared.Edge.the-variants.{ResetToInit, InitToInit, InitToRtr, RtrToRts, RtsToRts}
+use Rattle.edges.specs.declared.Edge.the-variants.{SqeToRts, RtsToSqd, SqdToSqd, SqdToRts, ToErr, ToReset}
 use Rattle.requests.specs.declared.PsnField.{PsnField}
 use Rattle.requests.specs.declared.PsnField.the-variants.{NextSend, LastAcked, Expected}
 use Rattle.requests.specs.declared.Owned.{Owned}

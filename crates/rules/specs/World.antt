@@ -1,65 +1,70 @@
 -- All that a call remembers and is lent, and the first rows of the table of refusals.
-use mathlib.Core.Bool.{Bool, not}
+use mathlib.Core.Bool.{Bool, false, not}
 use mathlib.Core.List.{List}
-use Prim.Native.Nat.{ℕ, _*_}
+use Prim.Native.Nat.{ℕ}
 use lib.Dec.{eqb, ltb}
 use lib.ListN.{length, getD}
 use Rattle.words.specs.Choice.{both, either}
-use Rattle.words.specs.Parts.{part}
 use Rattle.context.specs.declared.Logs.{Logs}
-use Rattle.requests.specs.declared.Request.{Request}
-use Rattle.request_table.specs.Mailboxes.{needOf}
+use Rattle.burst_table.specs.Sizes.{slotCount, roomSize}
+use Rattle.records.specs.Memory.{Memory, memory}
 use Rattle.slots.specs.Slots.{slot}
-use Rattle.possible.specs.Possible.{impossible}
-use Rattle.possible.specs.declared.Hca.{Hca}
 use Rattle.slots.specs.declared.Slot.{Slot}
 use Rattle.slots.specs.declared.Status.{Status}
 use Rattle.slots.specs.declared.Status.the-variants.{Free}
+use Rattle.possible.specs.Possible.{impossible}
+use Rattle.possible.specs.declared.Hca.{Hca}
 
--- what is handed in and handed back, and what is lent
+-- what is handed in and handed back (the state and the row), and what is lent (the memory of the records, and the room)
 pub record World : Type 0 where
   pub hca : Hca
   pub row : List Slot
-  pub store : List ℕ
+  pub memory : Memory
   pub room : List ℕ
 
 abbrev pub world : Hca → List Slot → List ℕ → List ℕ → World
-world h row store room = record { hca = h; row = row; store = store; room = room }
+world h row store room = record { hca = h; row = row; memory = memory store; room = room }
+
+-- a world with one part changed: the others are not named
+abbrev pub withHca : World → Hca → World
+withHca w h = record { hca = h; row = w .row; memory = w .memory; room = w .room }
+
+abbrev pub withRow : World → List Slot → World
+withRow w row = record { hca = w .hca; row = row; memory = w .memory; room = w .room }
+
+abbrev pub withMemory : World → Memory → World
+withMemory w m = record { hca = w .hca; row = w .row; memory = m; room = w .room }
+
+abbrev pub withRoom : World → List ℕ → World
+withRoom w room = record { hca = w .hca; row = w .row; memory = w .memory; room = room }
 
 abbrev pub hcaOf : Bool → Logs → ℕ → Hca
 hcaOf o g n = record { «open» = o; logs = g; «store_len» = n }
 
--- "2,048 bytes of working room, 256 for each slot"
-abbrev pub slotRoom : ℕ
-slotRoom = 256
+-- the state, closed: counts and length stay in it (docs/DECISIONS.md, 8)
+abbrev pub shut : Hca → Hca
+shut h = hcaOf false (h .logs) (h .«store_len»)
 
-abbrev pub roomSize : ℕ
-roomSize = 2048
-
--- the slot's part of the room
-unfoldable pub roomOf : ℕ → List ℕ → List ℕ
-roomOf k room = part (k * slotRoom) slotRoom room
-
--- its front: the mailbox bytes of the slot's request
-unfoldable pub frontOf : ℕ → Request → List ℕ → List ℕ
-frontOf k q room = part (k * slotRoom) (needOf q) room
+-- how long the lent store is
+abbrev pub storeLength : World → ℕ
+storeLength w = length (w .memory .store)
 
 -- the slot with a number; no slot has a number past the row's end
 unfoldable pub statusAt : ℕ → List Slot → Status
 statusAt k row = getD row k (slot Free) .status
 
--- "row not 8, room below 2,048" (all that reset tests)
+-- The row has eight slots and the room at least their eight parts: all that reset tests (01, Numbers returned, the first 0x83).
 unfoldable pub badRow : World → Bool
-badRow w = either (not (eqb (length (w .row)) 8)) (ltb (length (w .room)) roomSize)
+badRow w = either (not (eqb (length (w .row)) slotCount)) (ltb (length (w .room)) roomSize)
 
--- "or, while open, store length not that of INIT_HCA"
+-- While open, the store is as long as the one that INIT_HCA was lent (the same row of the table).
 unfoldable pub badStore : World → Bool
-badStore w = both (w .hca .«open») (not (eqb (length (w .store)) (w .hca .«store_len»)))
+badStore w = both (w .hca .«open») (not (eqb (storeLength w) (w .hca .«store_len»)))
 
 -- what every call but reset tests of the memory lent
 unfoldable pub badLent : World → Bool
 badLent w = either (badRow w) (badStore w)
 
--- "any call but reset, state handed in impossible"
+-- The state handed in is possible: every call but reset tests it next (01, Numbers returned, 0x87).
 unfoldable pub badState : World → Bool
 badState w = impossible (w .hca) (w .row)

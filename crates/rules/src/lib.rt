@@ -1,9 +1,14 @@
-// The answers of the model's five calls. What each call answers and leaves is defined in specs/.
+// The answers of the model's five calls, and what a submission decides. What each call answers and
+// leaves is defined in specs/.
+
+use checks::Denial;
+use context::Logs;
+use requests::Request;
 
 // Why a call is refused, in the order of document 01's table. Two causes may share a number.
 pub enum Refusal {
-    // The row is not 8 long, the room is below 2,048 bytes, the store's length is not the one that
-    // INIT_HCA was lent, or the HCR is below 28 bytes.
+    // The row is not 8 long, the room is too short, the store's length is not the one that INIT_HCA
+    // was lent, or the HCR is below 28 bytes.
     BadLength,
     // The state handed in is impossible.
     Impossible,
@@ -27,12 +32,25 @@ pub enum Refusal {
     ShortMailbox,
     // The mailbox content is wrong.
     BadContent,
-    // The record is held against this request.
+    // A record is held against this request.
     Held,
-    // The edge is not permitted, or the owner is the wrong one.
-    NotPermitted,
+    // The record's state does not permit it: the edge, or the owner.
+    Denied(Denial),
     // All eight slots are occupied.
     Full,
+}
+
+// What is decided of a submission from what is lent, before anything is changed.
+pub enum Decision {
+    Refuse(Refusal),
+    // NOP: done at once, and nothing changes.
+    Nothing,
+    // CLOSE_HCA.
+    Close,
+    // INIT_HCA, with the logarithms of the counts.
+    Open(Logs),
+    // The request is accepted into this slot.
+    Take(Request, usize),
 }
 
 // A submission: a command done at once, a request accepted into a slot, or a refusal.

@@ -1,4 +1,5 @@
--- The plain book, fed with the finished requests in any of the freer orders: the same records and the same answers.
+-- The plain book, fed with the finished requests in any of the freer orders: the same records and the same answers. For request 12, as
+-- Freer and Finishing are.
 use mathlib.Core.Path.{_≡_, sym, _∙_, ap, subst}
 use mathlib.Core.List.{List, _∷_, _++_}
 use Rattle.serial.specs.Core.{Sys, Store, Journal, Quiet, Inv, good-plays}

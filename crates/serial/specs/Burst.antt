@@ -6,7 +6,8 @@ use mathlib.Core.List.{[], _∷_, _++_}
 use Rattle.serial.specs.Core.{Alike, Sys, Entry, refused, done, running, Store, Journal, play, Quiet, req, Passes, Clear, Good, Inv}
 
 module _ (S : Sys) where
-  open Sys S using (Rec, Req, Ans, Prog, Sees, Holds, Writes, writes?, writes-holds, holds-sees, ans, eff, num-local, ans-local, eff-local, eff-frame, Mid, mid-local)
+  open Sys S using (Rec, Req, Ans, Prog, Sees, Holds, Writes, writes?, writes-holds)
+  open Sys S using (holds-sees, ans, eff, num-local, ans-local, eff-local, eff-frame, Mid, mid-local)
 
   -- two stores that differ in nothing but what r writes
   abbrev pub Elsewhere : Req → Store S → Store S → Type 0
@@ -24,7 +25,8 @@ module _ (S : Sys) where
       go (yes y) = eff-local q s t (seen r q s t c h) X y
       go (no y) = eff-frame q s X y ∙ h X nr ∙ sym (eff-frame q t X y)
 
-  good-elsewhere : (r : Req) (w u s t : Store S) (J : Journal S) → Elsewhere r s t → Elsewhere r w u → Clear S r J → Good S w s J → Good S u t J
+  good-elsewhere : (r : Req) (w u s t : Store S) (J : Journal S) → Elsewhere r s t → Elsewhere r w u → Clear S r J → Good S w s J
+      → Good S u t J
   good-elsewhere r w u s t [] h k c g = tt
   good-elsewhere r w u s t (refused q n ∷ J) h k c g =
       (sym (num-local q s t (seen r q s t (c .0) h)) ∙ g .0, good-elsewhere r w u s t J h k (c .1) (g .1))

@@ -1,7 +1,9 @@
 -- Demand 3 of document 01 without the adapter: requests that hold their records from acceptance to the last burst are serial in
 -- the order of acceptance. Here are the system, the journal, the claim, and the invariant that gives it. That every call keeps the
 -- invariant is proved in Burst and Submit. Then Slots and Next come from a journal to a machine's calls, Ledger to lists of calls
--- with initialisations and resets in them, and Plain to document 01's book.
+-- with initialisations and resets in them, and Plain and Told to document 01's book.
+-- The theory says more than demand 3 of document 01 asks. What the adapter does not use yet says in its comment for which later request
+-- of the project it is there.
 --
 -- A store gives every record its contents. The book does a request whole: `num` is its verdict, `ans` its answer, `eff` the
 -- records afterwards. A machine moves requests burst by burst, several under way at once.
@@ -25,7 +27,8 @@ pub record Sys : Type 1 where
   pub Req : Type 0
   pub Ans : Type 0
   -- The verdict: `accepted`, or why not. A type of its own and not a number, so that two causes may share a number, and so that
-  -- a cause that no call ever gives is a case and not a number set aside.
+  -- a cause that no call ever gives is a case and not a number set aside. Request 2 (three records joined) needs such a cause: that the
+  -- names which a slot holds are no longer those in the records.
   pub Num : Type 0
   pub accepted : Num
   -- how far a request has come, with what it has gathered; `start` stands in for a slot that the journal names and that is
@@ -33,8 +36,9 @@ pub record Sys : Type 1 where
   pub Prog : Type 0
   pub start : Prog
   -- The records that a request's verdict, answer and effect may depend on; those that it holds while it runs; those that it
-  -- writes. A reader of three records holds three. What is seen may exceed what is held: a verdict may depend on records that
-  -- others change as soon as the request is accepted.
+  -- writes. A reader of three records holds three (request 2). What is seen may exceed what is held: a verdict may depend on records
+  -- that others change as soon as the request is accepted. Today all that is seen is held; request 9 (a census) has a command that looks
+  -- at every queue pair and holds one completion queue.
   pub Sees : Req → Rec → Type 0
   pub Holds : Req → Rec → Type 0
   pub Writes : Req → Rec → Type 0
@@ -49,7 +53,8 @@ pub record Sys : Type 1 where
   pub ans-local : (r : Req) (s t : Rec → Contents) → Alike (Sees r) s t → ans r s ≡ ans r t
   pub eff-local : (r : Req) (s t : Rec → Contents) → Alike (Sees r) s t → Alike (Writes r) (eff r s) (eff r t)
   pub eff-frame : (r : Req) (s : Rec → Contents) → Alike (λ X. ¬ Writes r X) (eff r s) s
-  -- what else submission has made sure of, for a running p and the new q (as: not both are commands); only the freer order asks
+  -- What else submission has made sure of, for a running p and the new q (as: not both are commands). Only the freer order of request 12
+  -- asks, where one sees more than it holds (Finishing); today nothing is made sure of here.
   pub Also : Req → Req → Type 0
   -- Mid r p s w: r was begun in the store s and has come to p, and the store is now w. State it backwards, as "run the bursts
   -- that are left, from w, and the result is the book's for s", and not as "so much of the book's result is there already". Then

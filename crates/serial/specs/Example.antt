@@ -70,7 +70,10 @@ system = record {
   eff = eff;
   num-local = λ r s t. elim r [ fill m n ↦ λ h. ap (λ c. c .0) (h left tt) | peek ↦ λ h. refl ];
   ans-local = λ r s t. elim r [ fill m n ↦ λ h. refl | peek ↦ λ h. ap₂ (λ c d. c ∷ d ∷ []) (h left tt) (h right tt) ];
-  eff-local = λ r s t. elim r [ fill m n ↦ λ h X. elim X [ left ↦ λ y. ap (λ c. (m, c .1 + n)) (h left tt) | right ↦ λ y. absurd y ] | peek ↦ λ h X y. absurd y ];
+  eff-local = λ r s t. elim r [
+    | fill m n ↦ λ h X. elim X [ left ↦ λ y. ap (λ c. (m, c .1 + n)) (h left tt) | right ↦ λ y. absurd y ]
+    | peek ↦ λ h X y. absurd y
+  ];
   eff-frame = λ r s X. elim r [ fill m n ↦ elim X [ left ↦ λ y. absurd (y tt) | right ↦ λ y. refl ] | peek ↦ λ y. refl ];
   Also = λ p q. Unit {0};
   Mid = Mid;

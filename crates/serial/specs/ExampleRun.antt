@@ -44,18 +44,23 @@ abbrev journal : List (Item system)
 journal = gone (fill 2 3) [] ∷ gone peek ((2, 8) ∷ (9, 9) ∷ []) ∷ off (fill 1 1) 2 ∷ []
 
 -- a fresh start; the writer is accepted and moves its two bursts; the reader; a second writer, refused; the first is collected
-run : Moves system (world (0, 5) free) shut (world (2, 8) free)
+pub run : Moves system (world (0, 5) free) shut (world (2, 8) free)
     (kept (both (0, 5)) journal)
 unfolding ℕ-discrete
 run =
     then {u = world (0, 5) free} (fresh (λ j. elim j [ zero ↦ refl | suc i ↦ refl ]))
-    (then {u = world (0, 5) (runs (fill 2 3) two)} (event (take {k = 0} two (λ X. refl) refl refl (beside _ _) (idle-slot (0, 5) free (λ b. b) (fill 2 3)) refl refl))
-    (then {u = world (2, 5) (runs (fill 2 3) one)} (event (step (fill 2 3) 0 two one refl refl (beside _ _) (right-kept _ _ 2 3) (λ t e. e)))
+    (then {u = world (0, 5) (runs (fill 2 3) two)} (event (take {k = 0} two (λ X. refl) refl refl (beside _ _)
+    (idle-slot (0, 5) free (λ b. b) (fill 2 3)) refl refl))
+    (then {u = world (2, 5) (runs (fill 2 3) one)} (event (step (fill 2 3) 0 two one refl refl (beside _ _) (right-kept _ _ 2 3)
+    (λ t e. e)))
     (then {u = world (2, 8) (ended (fill 2 3) [])} (event (last (fill 2 3) 0 one [] refl refl (beside _ _) (right-kept _ _ 2 3)
     (λ t e. (refl, λ X. elim X [ left ↦ λ y. e | right ↦ λ y. absurd y ]))))
-    (then {u = world (2, 8) (ended (fill 2 3) [])} (event (once (λ X. refl) (λ j. refl) (idle-slot (2, 8) (ended (fill 2 3) []) (λ b. b) peek) refl refl))
-    (then {u = world (2, 8) (ended (fill 2 3) [])} (event (turn {r = fill 1 1} (record { looks = λ X. refl; slots = λ j. refl }) (idle-slot (2, 8) (ended (fill 2 3) []) (λ b. b) (fill 1 1)) refl))
+    (then {u = world (2, 8) (ended (fill 2 3) [])} (event (once (λ X. refl) (λ j. refl)
+    (idle-slot (2, 8) (ended (fill 2 3) []) (λ b. b) peek) refl refl))
+    (then {u = world (2, 8) (ended (fill 2 3) [])} (event (turn {r = fill 1 1} (record { looks = λ X. refl; slots = λ j. refl })
+    (idle-slot (2, 8) (ended (fill 2 3) []) (λ b. b) (fill 1 1)) refl))
     (then {u = world (2, 8) free} (event (collect (fill 2 3) {k = 0} refl refl (beside _ _) (λ X. refl))) stop))))))
 
-holds : Claims system (both (0, 5)) (both (2, 8)) (done (fill 2 3) [] ∷ done peek ((2, 8) ∷ (9, 9) ∷ []) ∷ refused (fill 1 1) 2 ∷ [])
-holds = owed system (world (0, 5) free) (world (2, 8) free) (kept (both (0, 5)) journal) run
+pub example-claims : Claims system (both (0, 5)) (both (2, 8))
+    (done (fill 2 3) [] ∷ done peek ((2, 8) ∷ (9, 9) ∷ []) ∷ refused (fill 1 1) 2 ∷ [])
+example-claims = owed system (world (0, 5) free) (world (2, 8) free) (kept (both (0, 5)) journal) run

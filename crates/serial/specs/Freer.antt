@@ -3,13 +3,17 @@
 -- Two requests meet if there is a record that both see and one of them writes. `Reorder Loose L K` says that K has the requests of
 -- L in another order, in which only such pairs have changed places as `Loose` allows. `Apart`, the loosest, allows all that do not
 -- meet; a statement that counts more requests as meeting than do uses a narrower relation (`reorder-narrow`).
+--
+-- Demand 3 of document 01 has the order of acceptance alone. Request 12 asks for the freer orders, and counts HW2SW_CQ and CLOSE_HCA as
+-- meeting more requests than they do: there a narrower relation is used.
 use mathlib.Core.Path.{_≡_, refl, sym, _∙_, ap, subst, fun-ext}
 use mathlib.Core.List.{List, [], _∷_, _++_, append-assoc, append-nil}
 use Rattle.serial.specs.Core.{Sys, Store}
 use Rattle.serial.specs.Order.{Done, feed, Feeds}
 
 module _ (S : Sys) where
-  open Sys S using (Rec, Req, accepted, Sees, Writes, writes?, writes-holds, holds-sees, num, ans, eff, num-local, ans-local, eff-local, eff-frame)
+  open Sys S using (Rec, Req, accepted, Sees, Writes, writes?, writes-holds, holds-sees)
+  open Sys S using (num, ans, eff, num-local, ans-local, eff-local, eff-frame)
 
   pub record Apart (p q : Req) : Type 0 where
     pub left : (X : Rec) → Writes p X → ¬ Sees q X
@@ -22,7 +26,8 @@ module _ (S : Sys) where
   -- the first request moves back behind A, past none but such as it may change places with
   pub data Reorder (Loose : Req → Req → Type 0) : List (Done S) → List (Done S) → Type 0 where
     none : Reorder Loose [] []
-    move : {d : Done S} {L : List (Done S)} (A B : List (Done S)) → AllLoose Loose (d .what) A → Reorder Loose L (A ++ B) → Reorder Loose (d ∷ L) (A ++ d ∷ B)
+    move : {d : Done S} {L : List (Done S)} (A B : List (Done S)) → AllLoose Loose (d .what) A → Reorder Loose L (A ++ B)
+        → Reorder Loose (d ∷ L) (A ++ d ∷ B)
 
   -- ---- Two requests that do not meet
 
@@ -43,7 +48,8 @@ module _ (S : Sys) where
 
   -- ---- One request moves back
 
-  feeds-past : (d : Done S) (s : Store S) (A B : List (Done S)) → AllLoose Apart (d .what) A → num (d .what) s ≡ accepted → ans (d .what) s ≡ d .gave
+  feeds-past : (d : Done S) (s : Store S) (A B : List (Done S)) → AllLoose Apart (d .what) A → num (d .what) s ≡ accepted
+      → ans (d .what) s ≡ d .gave
       → Feeds S (eff (d .what) s) (A ++ B) → Feeds S s (A ++ d ∷ B)
   feeds-past d s [] B c n a h = (n, a, h)
   feeds-past d s (e ∷ A) B c n a h = (
@@ -55,7 +61,8 @@ module _ (S : Sys) where
         (subst (λ t. Feeds S t (A ++ B)) (swap (d .what) (e .what) s (c .0)) (h .2)),
   )
 
-  feed-past : (d : Done S) (s : Store S) (A B : List (Done S)) → AllLoose Apart (d .what) A → feed S (eff (d .what) s) (A ++ B) ≡ feed S s (A ++ d ∷ B)
+  feed-past : (d : Done S) (s : Store S) (A B : List (Done S)) → AllLoose Apart (d .what) A
+      → feed S (eff (d .what) s) (A ++ B) ≡ feed S s (A ++ d ∷ B)
   feed-past d s [] B c = refl
   feed-past d s (e ∷ A) B c =
       ap (λ t. feed S t (A ++ B)) (swap (d .what) (e .what) s (c .0)) ∙ feed-past d (eff (e .what) s) A B (c .1)
@@ -91,7 +98,8 @@ module _ (S : Sys) where
         put (e ∷ A) z = (z .0, put A (z .1))
 
     -- a request that stands before G in the one order comes last in the other
-    pub reorder-last : (x : Done S) (F G K : List (Done S)) → Reorder Loose (F ++ G) K → AllLoose Loose (x .what) G → Reorder Loose (F ++ x ∷ G) (K ++ x ∷ [])
+    pub reorder-last : (x : Done S) (F G K : List (Done S)) → Reorder Loose (F ++ G) K → AllLoose Loose (x .what) G
+        → Reorder Loose (F ++ x ∷ G) (K ++ x ∷ [])
     reorder-last x [] G K r c = move K [] (all-reorder (x .what) r c) (subst (λ l. Reorder Loose G l) (sym (append-nil K)) r)
     reorder-last x (d ∷ F) G K (move A B y r) c =
         subst (λ l. Reorder Loose (d ∷ (F ++ x ∷ G)) l) (sym (append-assoc A (d ∷ B) (x ∷ [])))

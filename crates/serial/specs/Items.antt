@@ -5,7 +5,8 @@ use mathlib.Core.Logic.{_⊎_, inl, inr}
 use Prim.Native.Nat.{ℕ}
 use native.Mathlib.Decide.{ℕ-discrete}
 use Rattle.serial.specs.Core.{Sys, refused, done, Passes, Passed, Store}
-use Rattle.serial.specs.Slots.{Slot, free, runs, ended, View, Item, off, gone, inside, settle-one, settle, entry, stand, stands, PassesAll, But, keep, owners, holder, Keeps}
+use Rattle.serial.specs.Slots.{Slot, free, runs, ended, View, Item, off, gone, inside, settle-one, settle}
+use Rattle.serial.specs.Slots.{entry, stand, stands, PassesAll, But, keep, owners, holder, Keeps}
 
 module _ (S : Sys) where
   open Sys S using (Req, Ans, Prog)
@@ -58,7 +59,8 @@ module _ (S : Sys) where
   stands-append v [] B = refl
   stands-append v (x ∷ A) B = ap (λ l. stand S v x ∷ l) (stands-append v A B)
 
-  pub stands-but : (v u : ℕ → Slot S) (k : ℕ) (J : List (Item S)) → ((j : ℕ) → ¬ (j ≡ k) → u j ≡ v j) → owners S k J ≡ [] → stands S u J ≡ stands S v J
+  pub stands-but : (v u : ℕ → Slot S) (k : ℕ) (J : List (Item S)) → ((j : ℕ) → ¬ (j ≡ k) → u j ≡ v j) → owners S k J ≡ []
+      → stands S u J ≡ stands S v J
   stands-but v u k [] h o = refl
   stands-but v u k (off r n ∷ J) h o = ap (λ l. refused r n ∷ l) (stands-but v u k J h o)
   stands-but v u k (gone r a ∷ J) h o = ap (λ l. done r a ∷ l) (stands-but v u k J h o)
@@ -69,7 +71,8 @@ module _ (S : Sys) where
       go (yes e) n ih = absurd (cons≢nil n)
       go (no e) n ih = ap₂ (λ x l. entry S r x ∷ l) (h j e) (ih n)
 
-  pub own-but : (s : Store S) (v u : View S) (J K : List (Item S)) (k : ℕ) → Keeps S s v J → But S k v u → owners S k K ≡ holder S (u .slot k)
+  pub own-but : (s : Store S) (v u : View S) (J K : List (Item S)) (k : ℕ) → Keeps S s v J → But S k v u
+      → owners S k K ≡ holder S (u .slot k)
       → ((j : ℕ) → ¬ (j ≡ k) → owners S j K ≡ owners S j J) → (j : ℕ) → owners S j K ≡ holder S (u .slot j)
   own-but s v u J K k i h at but j = go (ℕ-discrete j k)
     where
@@ -86,7 +89,8 @@ module _ (S : Sys) where
     pub not-before : owners S k before ≡ []
     pub not-after : owners S k after ≡ []
 
-  cons-located : (k : ℕ) (r : Req) (x : Item S) (J : List (Item S)) → ((B : List (Item S)) → owners S k (x ∷ B) ≡ owners S k B) → Located k r J → Located k r (x ∷ J)
+  cons-located : (k : ℕ) (r : Req) (x : Item S) (J : List (Item S)) → ((B : List (Item S)) → owners S k (x ∷ B) ≡ owners S k B)
+      → Located k r J → Located k r (x ∷ J)
   cons-located k r x J h c = record {
     before = x ∷ c .before;
     after = c .after;
@@ -101,7 +105,8 @@ module _ (S : Sys) where
   locate k r (gone q a ∷ J) o = cons-located k r (gone q a) J (λ B. refl) (locate k r J o)
   locate k r (inside q j ∷ J) o = go (ℕ-discrete j k) refl o (locate k r J)
     where
-      go : (d : Dec (j ≡ k)) → ℕ-discrete j k ≡ d → keep S d q (owners S k J) ≡ r ∷ [] → (owners S k J ≡ r ∷ [] → Located k r J) → Located k r (inside q j ∷ J)
+      go : (d : Dec (j ≡ k)) → ℕ-discrete j k ≡ d → keep S d q (owners S k J) ≡ r ∷ [] → (owners S k J ≡ r ∷ [] → Located k r J)
+          → Located k r (inside q j ∷ J)
       go (yes e) f n ih = record {
         before = [];
         after = J;
@@ -159,12 +164,14 @@ module _ (S : Sys) where
       go (runs o p) e y ih = (subst (λ z. Passes S z r) y (f j o p e), ih)
       go (ended o a) e y ih = ih
 
-  pub keeps-passed : (s : Store S) (v : View S) (J : List (Item S)) (r : Req) → Keeps S s v J → PassesAll S v r → Passed S (stands S (v .slot) J) r
+  pub keeps-passed : (s : Store S) (v : View S) (J : List (Item S)) (r : Req) → Keeps S s v J → PassesAll S v r
+      → Passed S (stands S (v .slot) J) r
   keeps-passed s v J r i f = passed (v .slot) r f J (λ k q y. in-holder q (v .slot k) (subst (λ l. In q l) (i .own k) y))
 
   -- ---- Slot k is collected
 
-  pub settle-stands : (v u : ℕ → Slot S) (k : ℕ) (a : Ans) (q : Req) → v k ≡ ended q a → ((j : ℕ) → ¬ (j ≡ k) → u j ≡ v j) → (J : List (Item S))
+  pub settle-stands : (v u : ℕ → Slot S) (k : ℕ) (a : Ans) (q : Req) → v k ≡ ended q a → ((j : ℕ) → ¬ (j ≡ k) → u j ≡ v j)
+      → (J : List (Item S))
       → stands S u (settle S k a J) ≡ stands S v J
   settle-stands v u k a q e h [] = refl
   settle-stands v u k a q e h (off r n ∷ J) = ap (λ l. refused r n ∷ l) (settle-stands v u k a q e h J)

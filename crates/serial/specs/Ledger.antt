@@ -4,6 +4,10 @@
 -- ledger says where a run is in this: `shut`, nothing is owed; or `kept`, with the store of the last fresh start and the journal
 -- since. A fresh start may come in the middle of a run, at an initialisation or any other call that leaves every slot free. The
 -- requests before it no longer count, and the book starts from the records it left.
+--
+-- Demand 3 of document 01 ends its lists of calls where the next begins, and does not use this. Request 4 (pages of host memory) needs
+-- `afresh`: after a change of the map only the requests since then count. So does request 12, where loading a text begins a list too;
+-- and a call that is several moves (`Moves`) is a turn of request 11. The example of this crate is run by it.
 use mathlib.Core.Path.{_≡_}
 use mathlib.Core.List.{List, []}
 use Prim.Native.Nat.{ℕ}

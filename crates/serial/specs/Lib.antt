@@ -9,6 +9,7 @@ pub mod Items
 pub mod Next
 pub mod Ledger
 pub mod Plain
+pub mod Told
 pub mod Freer
 pub mod Finishing
 pub mod AnyOrder

@@ -8,8 +8,10 @@ use Rattle.serial.specs.Core.{Sys, Store, Inv, Claims, claims}
 use Rattle.serial.specs.Burst.{step-inv, last-inv}
 use Rattle.serial.specs.Submit.{refuse-inv, accept-inv, instant-inv}
 use Rattle.serial.specs.Order.{Done}
-use Rattle.serial.specs.Slots.{Slot, free, View, Note, Item, off, gone, inside, settle, log, entry, stands, But, Event, idle, turn, take, once, step, last, collect, holder, owners, Keeps}
-use Rattle.serial.specs.Items.{keep-yes, keep-no, owners-append, stands-append, stands-but, own-but, Located, locate, around, keeps-passed, settle-stands, settle-own, settle-but}
+use Rattle.serial.specs.Slots.{Slot, free, View, Note, Item, off, gone, inside, settle, log, entry, stands, But}
+use Rattle.serial.specs.Slots.{Event, idle, turn, take, once, step, last, collect, holder, owners, Keeps}
+use Rattle.serial.specs.Items.{keep-yes, keep-no, owners-append, stands-append, stands-but, own-but, Located}
+use Rattle.serial.specs.Items.{locate, around, keeps-passed, settle-stands, settle-own, settle-but}
 
 module _ (S : Sys) where
   open Sys S using (Req)
@@ -32,7 +34,8 @@ module _ (S : Sys) where
   own-more s v u J x i h n k =
       owners-append S k J (x ∷ []) ∙ ap (λ l. owners S k J ++ l) (n k) ∙ append-nil (owners S k J) ∙ i .own k ∙ ap (holder S) (sym (h k))
 
-  pub next : (s : Store S) (v u : View S) (J : List (Item S)) {n : Note S} {f : List (Done S)} → Keeps S s v J → Event S v u n f → Keeps S s u (log S n J)
+  pub next : (s : Store S) (v u : View S) (J : List (Item S)) {n : Note S} {f : List (Done S)} → Keeps S s v J → Event S v u n f
+      → Keeps S s u (log S n J)
   next s v u J i (idle c) = record {
     inv = subst₂ (λ l f. Inv S s l (stands S f J)) (sym (fun-ext (c .looks))) (sym (fun-ext (c .slots))) (i .inv);
     own = λ k. i .own k ∙ ap (holder S) (sym (c .slots k));
@@ -49,7 +52,8 @@ module _ (S : Sys) where
         ∙ ap₂ (λ a x. a ++ entry S r x ∷ []) (stands-but S (v .slot) (u .slot) k J h (i .own k ∙ ap (holder S) e)) e′))
         (accept-inv S s (v .look) (stands S (v .slot) J) (i .inv) r (keeps-passed S s v J r i f) p n m);
     own = own-but S s v u J (J ++ inside r k ∷ []) k i h
-        (owners-append S k J (inside r k ∷ []) ∙ ap₂ _++_ (i .own k ∙ ap (holder S) e) (keep-yes S (ℕ-discrete k k) refl r []) ∙ ap (holder S) (sym e′))
+        (owners-append S k J (inside r k ∷ []) ∙ ap₂ _++_ (i .own k ∙ ap (holder S) e) (keep-yes S (ℕ-discrete k k) refl r [])
+        ∙ ap (holder S) (sym e′))
         (λ j y. owners-append S j J (inside r k ∷ []) ∙ ap (λ l. owners S j J ++ l) (keep-no S (ℕ-discrete k j) (λ z. y (sym z)) r [])
         ∙ append-nil (owners S j J));
   }

@@ -2,7 +2,8 @@
 --
 -- The requests of the system's book are what a slot holds, and its records are what the machine shows. The plain book has a state
 -- of its own (`Book`) and may be fed with less: a slot's request may name records that submission found named in other records,
--- where the plain book is given the arguments alone (`asks`) and finds the names itself.
+-- where the plain book is given the arguments alone (`asks`) and finds the names itself. That is so of request 2 (three records joined);
+-- today a slot holds what was asked, and nothing else.
 use mathlib.Core.Path.{_≡_, sym, _∙_, ap, subst}
 use mathlib.Core.List.{List, [], _∷_, _++_}
 use Rattle.serial.specs.Core.{Sys, Store, Journal, refused, play, Plays, plays-left, plays-right, Quiet, Inv, good-plays}
@@ -17,7 +18,7 @@ pub record Plain (S : Sys) : Type 1 where
   pub after : Ask → Book → Book
   -- the records that a book has
   pub shows : Book → S .Rec → S .Contents
-  -- the verdicts that a submission can give; not among them is "the request does not belong to these records"
+  -- the verdicts that a submission can give; not among them is "the request does not belong to these records", which request 2 needs
   pub Given : S .Num → Type 0
   -- over the same records: what the system's book accepts, the plain book accepts, with the same answer and the same effect
   pub takes : (r : S .Req) (b : Book) (s : S .Rec → S .Contents) → ((X : S .Rec) → shows b X ≡ s X) → S .num r s ≡ S .accepted
@@ -53,7 +54,8 @@ module _ (S : Sys) (P : Plain S) where
   Shows b s = (X : Rec) → shows b X ≡ s X
 
   -- also of use for any other list that the book takes, as one in another order (Freer)
-  pub given-feed : (b : Book) (s : Store S) (L : List (Done S)) → ((X : Rec) → shows b X ≡ s X) → Feeds S s L → (X : Rec) → shows (given b L) X ≡ feed S s L X
+  pub given-feed : (b : Book) (s : Store S) (L : List (Done S)) → ((X : Rec) → shows b X ≡ s X) → Feeds S s L → (X : Rec)
+      → shows (given b L) X ≡ feed S s L X
   given-feed b s [] m h = m
   given-feed b s (d ∷ L) m h = given-feed (after (asks (d .what)) b) (eff (d .what) s) L (takes (d .what) b s m (h .0) .2) (h .2)
 
@@ -73,7 +75,8 @@ module _ (S : Sys) (P : Plain S) where
     accepts = λ A B d e. given-at b s A B d m (fed A B d e) .0;
     records = λ X q. i .recs X q ∙ ap (λ t. t X) (play-feed S s J) ∙ sym (given-feed b s (finished S J) m (plays-feeds S s J plays) X);
     answers = λ A B d e. given-at b s A B d m (fed A B d e) .1;
-    refusals = λ A B r n e g. turns r (given b (finished S A)) (play S s A) (at A (refused r n ∷ B) e) (subst Given (sym (here A r n B e)) g) ∙ here A r n B e;
+    refusals = λ A B r n e g. turns r (given b (finished S A)) (play S s A) (at A (refused r n ∷ B) e)
+        (subst Given (sym (here A r n B e)) g) ∙ here A r n B e;
   }
     where
       plays : Plays S s J

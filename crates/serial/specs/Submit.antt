@@ -4,11 +4,13 @@
 -- already, so its verdict and its answer in the real store are those in the book's.
 use mathlib.Core.Path.{_≡_, refl, sym, _∙_, ap}
 use mathlib.Core.List.{[], _∷_, _++_}
-use Rattle.serial.specs.Core.{Alike, Sys, Entry, refused, done, running, Store, Journal, play, Quiet, req, Passes, Passed, Clear, Good, Inv}
+use Rattle.serial.specs.Core.{Alike, Sys, Entry, refused, done, running, Store, Journal}
+use Rattle.serial.specs.Core.{play, Quiet, req, Passes, Passed, Clear, Good, Inv}
 use Rattle.serial.specs.Burst.{Elsewhere}
 
 module _ (S : Sys) where
-  open Sys S using (Rec, Req, Ans, Num, accepted, Prog, Sees, Writes, writes?, num, ans, eff, num-local, ans-local, eff-local, eff-frame, Mid, mid-local)
+  open Sys S using (Rec, Req, Ans, Num, accepted, Prog, Sees, Writes, writes?)
+  open Sys S using (num, ans, eff, num-local, ans-local, eff-local, eff-frame, Mid, mid-local)
 
   quiet-of : (J : Journal S) (q : Req) (X : Rec) → Sees q X → Passed S J q → Quiet S X J
   quiet-of [] q X y c = tt
@@ -70,7 +72,8 @@ module _ (S : Sys) where
       recs = unmoved (running r p) (λ X. refl);
     }
 
-    pub instant-inv : (u : Store S) (a : Ans) → num r w ≡ accepted → ans r w ≡ a → ((X : Rec) → u X ≡ eff r w X) → Inv S s u (J ++ done r a ∷ [])
+    pub instant-inv : (u : Store S) (a : Ans) → num r w ≡ accepted → ans r w ≡ a → ((X : Rec) → u X ≡ eff r w X)
+        → Inv S s u (J ++ done r a ∷ [])
     instant-inv u a e f h = record {
       good = good-snoc w u s J (done r a) (λ X n. sym (h X ∙ eff-frame r w X n)) c
           (sym (num-local r w (play S s J) now) ∙ e, sym (ans-local r w (play S s J) now) ∙ f, tt) (i .good);

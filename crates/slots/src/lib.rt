@@ -88,6 +88,7 @@ impl Slot {
         }
     }
 
+    // A collected slot is free.
     pub fn free(self) -> Slot
         ensures { λ r. ⌜ r ≡ freed self ⌝ }
     {
@@ -96,6 +97,7 @@ impl Slot {
         }
     }
 
+    // The bursts that the slot's request has still to move.
     pub fn bursts_left(self) -> u8
         ensures { λ r. ⌜ r ≡ leftOf self ⌝ }
     {
@@ -104,6 +106,7 @@ impl Slot {
     }
 }
 
+// Whether a slot has a request, running or finished.
 pub fn is_occupied(slot: Slot) -> bool
     ensures { λ r. ⌜ r ≡ isOccupied slot ⌝ }
 {

@@ -18,7 +18,7 @@ both p q = pick p q false
 abbrev pub either : Bool → Bool → Bool
 either p q = pick p true q
 
--- from ≤ i ≤ last: as document 01 gives its ranges, both ends included
+-- i is in the range from `from` to `last`, both ends included, as 01 gives its ranges
 abbrev pub within : ℕ → ℕ → ℕ → Bool
 within from last i = both (leb from i) (leb i last)
 
@@ -38,6 +38,16 @@ pub ruleset cases = (told, pick-yes, pick-no, eq-eqb, ne-eqb, lt-ltb, le-ltb, le
 pub by-pick {κ} : {A : Type 0} (P : A → Type κ) (b : Bool) (x y : A) → (b ≡ true → P x) → (b ≡ false → P y) → P (pick b x y)
 by-pick P true x y f g = f refl
 by-pick P false x y f g = g refl
+
+-- a function of a choice is the choice of its values
+pub pick-ap : {A B : Type 0} (f : A → B) (b : Bool) (x y : A) → f (pick b x y) ≡ pick b (f x) (f y)
+pick-ap f true x y = refl
+pick-ap f false x y = refl
+
+-- a choice in a choice, with one way out of both, asks for both tests
+pub pick-both : {A : Type 0} (p q : Bool) (x y : A) → pick p (pick q x y) y ≡ pick (both p q) x y
+pick-both true q x y = refl
+pick-both false q x y = refl
 
 pub both-left : (p q : Bool) → both p q ≡ true → p ≡ true
 both-left true q e = refl

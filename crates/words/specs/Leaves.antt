@@ -21,7 +21,8 @@ unfolding leValue beValue
 be-four a b c d = omega arith
 
 -- Four bytes from at, one by one.
-pub part-four : (at : ℕ) (l : List ℕ) → at + 4 ≤ length l → part at 4 l ≡ getD l at 0 ∷ getD l (at + 1) 0 ∷ getD l (at + 2) 0 ∷ getD l (at + 3) 0 ∷ []
+pub part-four : (at : ℕ) (l : List ℕ) → at + 4 ≤ length l
+    → part at 4 l ≡ getD l at 0 ∷ getD l (at + 1) 0 ∷ getD l (at + 2) 0 ∷ getD l (at + 3) 0 ∷ []
 unfolding part
 part-four at l h =
     rw (
@@ -34,18 +35,23 @@ part-four at l h =
       add-three,
     )
 
-pub le32-is : (at : ℕ) (l : List ℕ) → at + 4 ≤ length l → leValue (getD l at 0 ∷ getD l (at + 1) 0 ∷ getD l (at + 2) 0 ∷ getD l (at + 3) 0 ∷ []) ≡ le32 at l
+pub le32-is : (at : ℕ) (l : List ℕ) → at + 4 ≤ length l
+    → leValue (getD l at 0 ∷ getD l (at + 1) 0 ∷ getD l (at + 2) 0 ∷ getD l (at + 3) 0 ∷ []) ≡ le32 at l
 unfolding le32
 le32-is at l h = ap leValue (sym (part-four at l h))
 
-pub be32-is : (at : ℕ) (l : List ℕ) → at + 4 ≤ length l → leValue (getD l (at + 3) 0 ∷ getD l (at + 2) 0 ∷ getD l (at + 1) 0 ∷ getD l at 0 ∷ []) ≡ be32 at l
+pub be32-is : (at : ℕ) (l : List ℕ) → at + 4 ≤ length l
+    → leValue (getD l (at + 3) 0 ∷ getD l (at + 2) 0 ∷ getD l (at + 1) 0 ∷ getD l at 0 ∷ []) ≡ be32 at l
 unfolding be32
 be32-is at l h = sym (be-four _ _ _ _) ∙ ap beValue (sym (part-four at l h))
 
 -- Four stores from at.
-pub splice-four : (at a b c d : ℕ) (l : List ℕ) → at + 4 ≤ length l → set (set (set (set l at a) (at + 1) b) (at + 2) c) (at + 3) d ≡ splice at (a ∷ b ∷ c ∷ d ∷ []) l
+pub splice-four : (at a b c d : ℕ) (l : List ℕ) → at + 4 ≤ length l
+    → set (set (set (set l at a) (at + 1) b) (at + 2) c) (at + 3) d ≡ splice at (a ∷ b ∷ c ∷ d ∷ []) l
 unfolding splice
-splice-four at a b c d l h = rw (add-one, add-two, add-three) (sets-eq (a ∷ b ∷ c ∷ d ∷ []) l at h ∙ append-assoc (take at l) (a ∷ b ∷ c ∷ d ∷ []) (drop (at + 4) l))
+splice-four at a b c d l h =
+    rw (add-one, add-two, add-three)
+    (sets-eq (a ∷ b ∷ c ∷ d ∷ []) l at h ∙ append-assoc (take at l) (a ∷ b ∷ c ∷ d ∷ []) (drop (at + 4) l))
 
 pub leBytes-four : (v : ℕ) → leBytes 4 v ≡ v % 0x100 ∷ v / 0x100 % 0x100 ∷ v / 0x10000 % 0x100 ∷ v / 0x1000000 % 0x100 ∷ []
 unfolding leBytes
@@ -61,10 +67,12 @@ beBytes-four v =
     rw e
 
 -- A loop that fills a list from the front: m is the list at the loop's head.
-pub fill-again : (n v : ℕ) (l m : List ℕ) → m ≡ replicate n v ++ drop n l → length m ≡ length l → n < length m → set m n v ≡ replicate (n + 1) v ++ drop (n + 1) l
+pub fill-again : (n v : ℕ) (l m : List ℕ) → m ≡ replicate n v ++ drop n l → length m ≡ length l → n < length m
+    → set m n v ≡ replicate (n + 1) v ++ drop (n + 1) l
 fill-again n v l m e k h = rw e (fill-more n v l (omega arith))
 
-pub fill-done : (n v : ℕ) (l m : List ℕ) → m ≡ replicate n v ++ drop n l → length m ≡ length l → length m ≤ n → n ≤ length l → m ≡ replicate (length l) v
+pub fill-done : (n v : ℕ) (l m : List ℕ) → m ≡ replicate n v ++ drop n l → length m ≡ length l
+    → length m ≤ n → n ≤ length l → m ≡ replicate (length l) v
 fill-done n v l m e k p q =
     let i : n ≡ length l = omega arith in
     e ∙ rw (i, drop-length, append-nil)

@@ -4,4 +4,5 @@ pub mod Tests
 pub mod Parts
 pub mod Words
 pub mod Maps
+pub mod Tails
 pub mod Leaves

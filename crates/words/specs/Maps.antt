@@ -83,7 +83,9 @@ pub copy-map : (t : ℕ → Bool) (p : ℕ → ℕ) (at from n : ℕ) (xs r : Li
     → splice at (part from n xs) r ≡ mapFrom (λ i b. pick (t i) (getD xs (p i) 0) b) 0 r
 copy-map t p at from n xs r h k inside outside place =
     splice-map _ at n (part from n xs) r (length-part from n xs h) k
-    (λ i l m. getD-part from n xs (i - at) (omega arith) ∙ ap (λ (j : ℕ). getD xs j 0) (place i l m) ∙ pick-yes (t i) _ _ _ (inside i l m) refl)
+    (λ i l m. getD-part from n xs (i - at) (omega arith)
+    ∙ ap (λ (j : ℕ). getD xs j 0) (place i l m)
+    ∙ pick-yes (t i) _ _ _ (inside i l m) refl)
     (λ i o. pick-no (t i) _ _ _ (outside i o) refl)
 
 -- ---- the loop
@@ -107,7 +109,8 @@ unfolding mapFirst
 more-mapFirst f i zero [] h = refl
 more-mapFirst f i zero (x ∷ xs) h = rw add-zero
 more-mapFirst f i (suc n) [] h = refl
-more-mapFirst f i (suc n) (x ∷ xs) h = ap (λ (t : List ℕ). f i x ∷ t) (rw (add-suc, ← suc-add) (more-mapFirst f (suc i) n xs (omega arith)))
+more-mapFirst f i (suc n) (x ∷ xs) h =
+    ap (λ (t : List ℕ). f i x ∷ t) (rw (add-suc, ← suc-add) (more-mapFirst f (suc i) n xs (omega arith)))
 
 all-mapFirst : (f : ℕ → ℕ → ℕ) (i : ℕ) (l : List ℕ) → mapFirst f i (length l) l ≡ mapFrom f i l
 unfolding mapFirst mapFrom
@@ -119,7 +122,8 @@ pub none-mapFirst : (f : ℕ → ℕ → ℕ) (i : ℕ) (l : List ℕ) → l ≡
 unfolding mapFirst
 none-mapFirst f i l = refl
 
-pub step-mapFirst : (f : ℕ → ℕ → ℕ) (i n : ℕ) (l m : List ℕ) (b : ℕ) → m ≡ mapFirst f i n l → n < length m → b ≡ f (i + n) (getD m n 0) → set m n b ≡ mapFirst f i (n + 1) l
+pub step-mapFirst : (f : ℕ → ℕ → ℕ) (i n : ℕ) (l m : List ℕ) (b : ℕ) → m ≡ mapFirst f i n l → n < length m
+    → b ≡ f (i + n) (getD m n 0) → set m n b ≡ mapFirst f i (n + 1) l
 step-mapFirst f i n l m b e h w =
     rw (add-one, w, e, old-mapFirst) (more-mapFirst f i n l (omega (arith, simp (e, length-mapFirst) at h)))
 

@@ -86,7 +86,10 @@ pub part-part : (at n o m : ℕ) (l : List ℕ) → at + n ≤ length l → o + 
 part-part at n o m l h k =
     ext-getD 0 (part o m (part at n l)) (part (at + o) m l) (first ∙ sym second)
     (λ i j. let j′ : i < m = omega (arith, first) in
-    getD-part o m (part at n l) i j′ ∙ getD-part at n l (o + i) (omega arith) ∙ ap (λ (x : ℕ). getD l x 0) (re i) ∙ sym (getD-part (at + o) m l i j′))
+    getD-part o m (part at n l) i j′
+    ∙ getD-part at n l (o + i) (omega arith)
+    ∙ ap (λ (x : ℕ). getD l x 0) (re i)
+    ∙ sym (getD-part (at + o) m l i j′))
   where
     re : (i : ℕ) → at + (o + i) ≡ at + o + i
     re i = omega arith
@@ -98,10 +101,12 @@ part-part at n o m l h k =
     second = length-part (at + o) m l (omega arith)
 
 -- what is replaced inside a part is replaced in the part
-pub splice-inside : (at n o : ℕ) (ys l : List ℕ) → at + n ≤ length l → o + length ys ≤ n → part at n (splice (at + o) ys l) ≡ splice o ys (part at n l)
+pub splice-inside : (at n o : ℕ) (ys l : List ℕ) → at + n ≤ length l → o + length ys ≤ n
+    → part at n (splice (at + o) ys l) ≡ splice o ys (part at n l)
 splice-inside at n o ys l h k =
     ext-getD 0 (part at n (splice (at + o) ys l)) (splice o ys (part at n l)) (first ∙ sym second)
-    (λ i j. let j′ : i < n = omega (arith, first) in getD-part at n (splice (at + o) ys l) i j′ ∙ each i j′ (decLt i o) (decLt i (o + length ys)))
+    (λ i j. let j′ : i < n = omega (arith, first) in
+    getD-part at n (splice (at + o) ys l) i j′ ∙ each i j′ (decLt i o) (decLt i (o + length ys)))
   where
     fits : at + o + length ys ≤ length l
     fits = omega arith
@@ -115,13 +120,21 @@ splice-inside at n o ys l h k =
     second : length (splice o ys (part at n l)) ≡ n
     second = length-splice o ys (part at n l) fits-part ∙ length-part at n l h
 
-    each : (i : ℕ) → i < n → Dec (i < o) → Dec (i < o + length ys) → getD (splice (at + o) ys l) (at + i) 0 ≡ getD (splice o ys (part at n l)) i 0
-    each i j (yes y) z = splice-below (at + o) ys l fits (at + i) (omega arith) ∙ sym (getD-part at n l i j) ∙ sym (splice-below o ys (part at n l) fits-part i y)
+    each : (i : ℕ) → i < n → Dec (i < o) → Dec (i < o + length ys)
+        → getD (splice (at + o) ys l) (at + i) 0 ≡ getD (splice o ys (part at n l)) i 0
+    each i j (yes y) z =
+        splice-below (at + o) ys l fits (at + i) (omega arith)
+        ∙ sym (getD-part at n l i j)
+        ∙ sym (splice-below o ys (part at n l) fits-part i y)
     each i j (no y) (yes z) =
         let e : at + i - (at + o) ≡ i - o = omega arith in
-        splice-in (at + o) ys l fits (at + i) (omega arith) (omega arith) ∙ ap (λ (x : ℕ). getD ys x 0) e ∙ sym (splice-in o ys (part at n l) fits-part i (omega arith) z)
+        splice-in (at + o) ys l fits (at + i) (omega arith) (omega arith)
+        ∙ ap (λ (x : ℕ). getD ys x 0) e
+        ∙ sym (splice-in o ys (part at n l) fits-part i (omega arith) z)
     each i j (no y) (no z) =
-        splice-above (at + o) ys l fits (at + i) (omega arith) ∙ sym (getD-part at n l i j) ∙ sym (splice-above o ys (part at n l) fits-part i (omega arith))
+        splice-above (at + o) ys l fits (at + i) (omega arith)
+        ∙ sym (getD-part at n l i j)
+        ∙ sym (splice-above o ys (part at n l) fits-part i (omega arith))
 
 -- what was put somewhere is read there
 pub part-splice : (at : ℕ) (ys l : List ℕ) → at + length ys ≤ length l → part at (length ys) (splice at ys l) ≡ ys
@@ -148,7 +161,9 @@ splice-part at n l h =
     each i (yes y) z = splice-below at (part at n l) l fits i y
     each i (no y) (yes z) =
         let e : at + (i - at) ≡ i = omega arith in
-        splice-in at (part at n l) l fits i (omega arith) (omega (arith, long)) ∙ getD-part at n l (i - at) (omega arith) ∙ ap (λ (x : ℕ). getD l x 0) e
+        splice-in at (part at n l) l fits i (omega arith) (omega (arith, long))
+        ∙ getD-part at n l (i - at) (omega arith)
+        ∙ ap (λ (x : ℕ). getD l x 0) e
     each i (no y) (no z) = splice-above at (part at n l) l fits i (omega (arith, long))
 
 -- nothing put leaves the list
@@ -177,7 +192,8 @@ unfolding splice
 splice-all ys l e = rw (zero-add, e, drop-length, append-nil)
 
 -- two lists that agree from at to at + n have the same part there
-pub part-agrees : (at n : ℕ) (p c : List ℕ) → at + n ≤ length p → at + n ≤ length c → ((i : ℕ) → i < n → getD p (at + i) 0 ≡ getD c (at + i) 0) → part at n p ≡ part at n c
+pub part-agrees : (at n : ℕ) (p c : List ℕ) → at + n ≤ length p → at + n ≤ length c
+    → ((i : ℕ) → i < n → getD p (at + i) 0 ≡ getD c (at + i) 0) → part at n p ≡ part at n c
 part-agrees at n p c h k a =
     ext-getD 0 (part at n p) (part at n c) (length-part at n p h ∙ sym (length-part at n c k))
     (λ i j. let j′ : i < n = omega (arith, length-part at n p h) in getD-part at n p i j′ ∙ a i j′ ∙ sym (getD-part at n c i j′))

@@ -9,7 +9,7 @@ use lib.Dec.{lit<}
 use lib.ListN.{length, getD}
 use Rattle.words.specs.Parts.{part}
 
--- Bits hi to lo of a word, counted from 0: document 01's "31:24".
+-- Bits hi to lo of a word, counted from 0 at its low end: what 01 writes as hi:lo.
 unfoldable pub bits : ℕ → ℕ → ℕ → ℕ
 bits hi lo w = w / 2 ^ lo % 2 ^ (hi - lo + 1)
 
@@ -35,7 +35,8 @@ unfoldable pub beBytes : ℕ → ℕ → List ℕ
 beBytes zero v = []
 beBytes (suc n) v = v / 256 ^ n % 256 ∷ beBytes n v
 
--- The 32-bit word at an offset of a list of bytes: little-endian, as in the command register; big-endian, as in store and mailboxes.
+-- The 32-bit word at an offset of a list of bytes: little-endian in the command register, big-endian in store and mailboxes
+-- (01, The command register; The context store).
 unfoldable pub le32 : ℕ → List ℕ → ℕ
 le32 at l = leValue (part at 4 l)
 

@@ -18,7 +18,9 @@ enum-told-4 : tie.Need-enum-told-4
 enum-told-4 c = search needs
 
 whole-answer-requires : tie.Need-whole-answer-requires
-whole-answer-requires c κs = (c .before .before .before .before .before .pre .0, rw (c .before .enum-told4 .given .1) at (c .before .before .before .before .before .pre .1))
+whole-answer-requires c κs =
+    let start = c .before .before .before .before .before in
+    (start .pre .0, rw (c .before .enum-told4 .given .1) at (start .pre .1))
 
 enum-told-5 : tie.Need-enum-told-5
 enum-told-5 c = search needs

@@ -9,19 +9,25 @@ enum-told : tie.Need-enum-told
 enum-told c = search needs
 
 state-answer-requires : tie.Need-state-answer-requires
-state-answer-requires c κs = (c .before .before .before .before .before .pre .0, rw (c .before .enum-told .given .1) at (c .before .before .before .before .before .pre .1))
+state-answer-requires c κs =
+    let start = c .before .before .before .before .before in
+    (start .pre .0, rw (c .before .enum-told .given .1) at (start .pre .1))
 
 enum-told-2 : tie.Need-enum-told-2
 enum-told-2 c = search needs
 
 next-answer-requires : tie.Need-next-answer-requires
-next-answer-requires c κs = (c .before .before .before .before .before .pre .0, rw (c .before .enum-told2 .given .1) at (c .before .before .before .before .before .pre .1))
+next-answer-requires c κs =
+    let start = c .before .before .before .before .before in
+    (start .pre .0, rw (c .before .enum-told2 .given .1) at (start .pre .1))
 
 enum-told-3 : tie.Need-enum-told-3
 enum-told-3 c = search needs
 
 whole-answer-requires : tie.Need-whole-answer-requires
-whole-answer-requires c κs = (c .before .before .before .before .before .pre .0, rw (c .before .enum-told3 .given .1) at (c .before .before .before .before .before .pre .1))
+whole-answer-requires c κs =
+    let start = c .before .before .before .before .before in
+    (start .pre .0, rw (c .before .enum-told3 .given .1) at (start .pre .1))
 
 enum-told-4 : tie.Need-enum-told-4
 enum-told-4 c = search needs

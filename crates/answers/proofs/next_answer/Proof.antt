@@ -28,7 +28,11 @@ copy-to-requires : tie.Need-copy-to-requires
 unfolding part
 copy-to-requires c κs =
     let start = c .before .before .before .before .before in
-    omega (arith, length-part 0x6d 3 (start .args .room .now) (omega arith), length-set (start .args .out .now) 0 (c .before .before .state-code .result))
+    omega (
+      arith,
+      length-part 0x6d 3 (start .args .room .now) (omega arith),
+      length-set (start .args .out .now) 0 (c .before .before .state-code .result),
+    )
 
 same-length : tie.Need-same-length
 same-length c = simp length-set at (c .before .before .copy-to .kept .1 .0)

@@ -7,13 +7,17 @@ enum-known-request : tie.Need-enum-known-request
 enum-known-request c = search needs
 
 command-answer-requires : tie.Need-command-answer-requires
-command-answer-requires c κs = (c .before .before .before .before .before .before .pre .0, rw (c .before .before .request .given .1) at (c .before .before .before .before .before .before .pre .1))
+command-answer-requires c κs =
+    let start = c .before .before .before .before .before .before in
+    (start .pre .0, rw (c .before .before .request .given .1) at (start .pre .1))
 
 enum-known-request-2 : tie.Need-enum-known-request-2
 enum-known-request-2 c = search needs
 
 engine-answer-requires : tie.Need-engine-answer-requires
-engine-answer-requires c κs = (c .before .before .before .before .before .before .pre .0, rw (c .before .before .request2 .given .1) at (c .before .before .before .before .before .before .pre .1))
+engine-answer-requires c κs =
+    let start = c .before .before .before .before .before .before in
+    (start .pre .0, rw (c .before .before .request2 .given .1) at (start .pre .1))
 
 same-length : tie.Need-same-length
 same-length c = search needs

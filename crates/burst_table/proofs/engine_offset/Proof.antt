@@ -1,6 +1,5 @@
 -- `burst_table::engine_offset` meets its contract.
-use Rattle.burst_table.specs.Bursts.{whole-offset, read-offset}
-use mathlib.Core.Path.{_∙_}
+use Rattle.burst_table.specs.Laws.{all-offset, state-offset}
 use borrow.Author.Needs.{needs}
 use Rattle.burst_table.proofs.engine_offset.Statement.{statement}
 use Rattle.burst_table.proofs.engine_offset.Tie as tie
@@ -30,15 +29,13 @@ returns : tie.Need-returns
 returns c =
     let e = c .enum-told .given .1 in
     let h = rw e at (c .before .before .pre) in
-    rw e (read-offset _ h)
+    rw e (state-offset _ h)
 
 returns-2 : tie.Need-returns-2
 returns-2 c = rw (c .before .enum-told2 .given .1) (c .psn-offset .ensures)
 
 returns-3 : tie.Need-returns-3
-returns-3 c =
-    let e = c .before .enum-told3 .given .1 in
-    rw e (c .whole-offset .ensures ∙ whole-offset 16 _ (rw e at (c .before .before .before .pre)))
+returns-3 c = all-offset _ _ _ _ (c .before .enum-told3 .given .1) (c .before .before .before .pre) (c .whole-offset .ensures)
 
 returns-4 : tie.Need-returns-4
 returns-4 c = rw (c .before .before .engine .given .1) (c .psn-offset2 .ensures)

@@ -1,5 +1,5 @@
 -- `burst_table::psn_offset` meets its contract.
-use Rattle.burst_table.specs.Bursts.{psn-first, psn-second}
+use Rattle.burst_table.specs.Laws.{psn-first, psn-second}
 use borrow.Author.Needs.{needs}
 use Rattle.burst_table.proofs.psn_offset.Statement.{statement}
 use Rattle.burst_table.proofs.psn_offset.Tie as tie

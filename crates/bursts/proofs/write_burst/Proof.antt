@@ -10,7 +10,8 @@ use Rattle.bursts.proofs.write_burst.Statement.{statement}
 use Rattle.bursts.proofs.write_burst.Tie as tie
 
 abbrev Inv-loop : tie.InvT-loop
-Inv-loop part₀ image request first i₀ part i = (i ≤ length part₀) × (length part ≡ length part₀) × (part ≡ mapFirst (byteOf request image) first i part₀)
+Inv-loop part₀ image request first i₀ part i =
+    (i ≤ length part₀) × (length part ≡ length part₀) × (part ≡ mapFirst (byteOf request image) first i part₀)
 
 abbrev μ-loop : tie.MeasureT-loop
 μ-loop part₀ image request first i₀ part i = length part₀ - i

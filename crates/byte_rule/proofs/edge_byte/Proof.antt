@@ -24,7 +24,9 @@ with-state-requires c κs = search needs
 
 returns-2 : tie.Need-returns-2
 unfolding edgeByte
-returns-2 c = edge-set _ _ _ _ (c .before .before .before .before .zeroes-record .ensures) (c .before .before .before .if1 .left) (c .before .before .target .ensures) (c .before .taken-byte .ensures) (c .with-state .ensures)
+returns-2 c =
+    edge-set _ _ _ _ (c .before .before .before .before .zeroes-record .ensures) (c .before .before .before .if1 .left)
+    (c .before .before .target .ensures) (c .before .taken-byte .ensures) (c .with-state .ensures)
 
 pub edge-byte-spec : {M : Type 1} → statement M
 edge-byte-spec =

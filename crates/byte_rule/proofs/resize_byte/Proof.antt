@@ -1,5 +1,6 @@
 -- `byte_rule::resize_byte` meets its contract.
-use Rattle.byte_rule.specs.Needed.{told-low, told-high}
+use mathlib.Core.Path.{sym, _∙_}
+use Rattle.words.specs.Tests.{within-low, within-high}
 use Rattle.byte_rule.specs.Bytes.{resizeByte}
 use Rattle.words.specs.Choice.{cases}
 use native.Mathlib.Omega.{arith}
@@ -18,10 +19,14 @@ in-range-requires : tie.Need-in-range-requires
 in-range-requires c κs = search needs
 
 sub-result : tie.Need-sub-result
-sub-result c = omega (arith, told-low 0x18 0x1b (c .before .before .before .before .args .at) _ (c .before .in-range .ensures) (c .if2 .taken))
+sub-result c =
+    let at = c .before .before .before .before .args .at in
+    omega (arith, within-low 0x18 0x1b at (sym (c .before .in-range .ensures) ∙ c .if2 .taken))
 
 shared-slice-read-result-2 : tie.Need-shared-slice-read-result-2
-shared-slice-read-result-2 c = omega (arith, told-high 0x18 0x1b (c .before .before .before .before .before .args .at) _ (c .before .before .in-range .ensures) (c .before .if2 .taken))
+shared-slice-read-result-2 c =
+    let at = c .before .before .before .before .before .args .at in
+    omega (arith, within-high 0x18 0x1b at (sym (c .before .before .in-range .ensures) ∙ c .before .if2 .taken))
 
 returns-2 : tie.Need-returns-2
 unfolding resizeByte

@@ -1,6 +1,6 @@
 -- `byte_rule::with_state` meets its contract.
 use native.Mathlib.Omega.{arith}
-use Rattle.byte_rule.specs.Needed.{stateCode-small}
+use Rattle.edges.specs.States.{stateCode-small}
 use Rattle.byte_rule.specs.Bytes.{withState}
 use Rattle.words.specs.Choice.{cases}
 use borrow.Author.Needs.{needs}

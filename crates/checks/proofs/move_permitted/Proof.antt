@@ -12,9 +12,14 @@ service-requires c κs = search needs
 judge-requires : tie.Need-judge-requires
 judge-requires c κs = search needs
 
+by-edge-requires : tie.Need-by-edge-requires
+by-edge-requires c κs = search needs
+
 returns : tie.Need-returns
-returns c = rw (← c .before .before .state-code .ensures, ← c .before .service .ensures) (c .judge .ensures .0)
+returns c =
+    rw (← c .before .before .before .state-code .ensures, ← c .before .before .service .ensures, ← c .before .judge .ensures .0)
+    (c .by-edge .ensures)
 
 pub move-permitted-spec : {M : Type 1} → statement M
 move-permitted-spec =
-    tie.close (tie.spec state-code-requires service-requires judge-requires returns)
+    tie.close (tie.spec state-code-requires service-requires judge-requires by-edge-requires returns)

@@ -1,4 +1,5 @@
 -- `checks::permission` meets its contract.
+use Rattle.checks.specs.Permission.{permission-told}
 use borrow.Author.Needs.{needs}
 use Rattle.checks.proofs.permission.Statement.{statement}
 use Rattle.checks.proofs.permission.Tie as tie
@@ -16,10 +17,16 @@ engine-permitted-requires : tie.Need-engine-permitted-requires
 engine-permitted-requires c κs = search needs
 
 returns : tie.Need-returns
-returns c = rw (c .before .before .request .given .1) (c .command-permitted .ensures)
+returns c =
+    let start = c .before .before .before .before .before in
+    permission-told (start .args .request) (start .args .rec .now)
+    (rw (c .before .before .request .given .1) (c .command-permitted .ensures))
 
 returns-2 : tie.Need-returns-2
-returns-2 c = rw (c .before .before .request2 .given .1) (c .engine-permitted .ensures)
+returns-2 c =
+    let start = c .before .before .before .before .before in
+    permission-told (start .args .request) (start .args .rec .now)
+    (rw (c .before .before .request2 .given .1) (c .engine-permitted .ensures))
 
 pub permission-spec : {M : Type 1} → statement M
 permission-spec =

@@ -26,11 +26,14 @@ part-permission-end : tie.Need-part-permission-end
 part-permission-end c = search needs
 
 permission-requires : tie.Need-permission-requires
-permission-requires c κs = simp (length-take, length-drop) (omega (arith, size-least (recordOf (c .before .before .before .args .request))))
+permission-requires c κs =
+    simp (length-take, length-drop) (omega (arith, size-least (recordOf (c .before .before .before .args .request))))
 
 returns : tie.Need-returns
 unfolding part
-returns c = c .permission .ensures ∙ rw (add-sub-cancel-left, c .before .before .size-of .ensures)
+returns c =
+    let size = c .before .before .size-of .ensures in
+    (c .permission .ensures .0 ∙ rw (add-sub-cancel-left, size), c .permission .ensures .1 ∙ rw (add-sub-cancel-left, size))
 
 pub permission-at-spec : {M : Type 1} → statement M
 permission-at-spec =

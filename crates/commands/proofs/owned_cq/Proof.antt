@@ -15,10 +15,10 @@ enum-told : tie.Need-enum-told
 enum-told c = search needs
 
 returns : tie.Need-returns
-returns c = ap onCq (sym (c .before .m .given .1) ∙ c .before .before .before .cq-number .ensures)
+returns c = ap onCq (sym (c .before .m .given .1) ∙ c .before .before .before .cq-number .ensures .0)
 
 returns-2 : tie.Need-returns-2
-returns-2 c = ap onCq (sym (c .enum-told .given .1) ∙ c .before .before .cq-number .ensures)
+returns-2 c = ap onCq (sym (c .enum-told .given .1) ∙ c .before .before .cq-number .ensures .0)
 
 pub owned-cq-spec : {M : Type 1} → statement M
 owned-cq-spec = tie.close (tie.spec cq-number-requires enum-known-m enum-told returns returns-2)

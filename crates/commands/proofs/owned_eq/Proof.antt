@@ -15,10 +15,10 @@ enum-told : tie.Need-enum-told
 enum-told c = search needs
 
 returns : tie.Need-returns
-returns c = ap onEq (sym (c .before .m .given .1) ∙ c .before .before .before .eq-number .ensures)
+returns c = ap onEq (sym (c .before .m .given .1) ∙ c .before .before .before .eq-number .ensures .0)
 
 returns-2 : tie.Need-returns-2
-returns-2 c = ap onEq (sym (c .enum-told .given .1) ∙ c .before .before .eq-number .ensures)
+returns-2 c = ap onEq (sym (c .enum-told .given .1) ∙ c .before .before .eq-number .ensures .0)
 
 pub owned-eq-spec : {M : Type 1} → statement M
 owned-eq-spec = tie.close (tie.spec eq-number-requires enum-known-m enum-told returns returns-2)

@@ -15,10 +15,10 @@ enum-told : tie.Need-enum-told
 enum-told c = search needs
 
 returns : tie.Need-returns
-returns c = ap onMpt (sym (c .before .m .given .1) ∙ c .before .before .before .mpt-number .ensures)
+returns c = ap onMpt (sym (c .before .m .given .1) ∙ c .before .before .before .mpt-number .ensures .0)
 
 returns-2 : tie.Need-returns-2
-returns-2 c = ap onMpt (sym (c .enum-told .given .1) ∙ c .before .before .mpt-number .ensures)
+returns-2 c = ap onMpt (sym (c .enum-told .given .1) ∙ c .before .before .mpt-number .ensures .0)
 
 pub owned-mpt-spec : {M : Type 1} → statement M
 owned-mpt-spec = tie.close (tie.spec mpt-number-requires enum-known-m enum-told returns returns-2)

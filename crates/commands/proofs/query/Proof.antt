@@ -15,10 +15,10 @@ enum-told : tie.Need-enum-told
 enum-told c = search needs
 
 returns : tie.Need-returns
-returns c = ap queryOf (sym (c .before .m .given .1) ∙ c .before .before .before .qp-number .ensures)
+returns c = ap queryOf (sym (c .before .m .given .1) ∙ c .before .before .before .qp-number .ensures .0)
 
 returns-2 : tie.Need-returns-2
-returns-2 c = ap queryOf (sym (c .enum-told .given .1) ∙ c .before .before .qp-number .ensures)
+returns-2 c = ap queryOf (sym (c .enum-told .given .1) ∙ c .before .before .qp-number .ensures .0)
 
 pub query-spec : {M : Type 1} → statement M
 query-spec = tie.close (tie.spec qp-number-requires enum-known-m enum-told returns returns-2)

@@ -20,7 +20,9 @@ cast-result c = search needs
 size-requires : tie.Need-size-requires
 size-requires c κs = search needs
 
-sum : (c : tie.After-size) → Starts (c .before .before .before .before .args .logs) (c .before .before .before .before .args .rec) (c .before .before .table-start .result) (c .before .number-of .result) (c .size .result)
+sum : (c : tie.After-size)
+    → Starts (c .before .before .before .before .args .logs) (c .before .before .before .before .args .rec)
+    (c .before .before .table-start .result) (c .before .number-of .result) (c .size .result)
 sum c =
     starts _ _ _ _ _ _
     (c .before .before .before .before .pre .0)

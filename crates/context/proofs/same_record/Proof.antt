@@ -44,7 +44,9 @@ number-of-requires-2 c κs = search needs
 returns-2 : tie.Need-returns-2
 unfolding sameRecord
 returns-2 c =
-    compared (c .before .before .before .before .before .kind-code .ensures ∙ ap kindCode (c .before .before .before .before .before .before .kind-of .ensures))
+    compared
+    (c .before .before .before .before .before .kind-code .ensures
+    ∙ ap kindCode (c .before .before .before .before .before .before .kind-of .ensures))
     (c .before .before .before .kind-code2 .ensures ∙ ap kindCode (c .before .before .before .before .kind-of2 .ensures)) (search needs)
     (c .before .number-of .ensures) (c .number-of2 .ensures)
 

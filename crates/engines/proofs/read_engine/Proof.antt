@@ -1,5 +1,6 @@
 -- `engines::read_engine` meets its contract.
 use Rattle.engines.specs.Engines.{readEngine}
+use Rattle.engines.specs.Reading.{engine-answer}
 use borrow.Author.Needs.{needs}
 use Rattle.engines.proofs.read_engine.Statement.{statement}
 use Rattle.engines.proofs.read_engine.Tie as tie
@@ -18,11 +19,13 @@ enum-told c = search needs
 
 returns : tie.Need-returns
 unfolding readEngine
-returns c = rw (← c .before .before .before .before .qp-number .ensures, c .before .before .n .given .1) (c .engine-on .ensures)
+returns c =
+    engine-answer _ _ _ _ _ _
+    (rw (← c .before .before .before .before .qp-number .ensures .0, c .before .before .n .given .1) (c .engine-on .ensures))
 
 returns-2 : tie.Need-returns-2
 unfolding readEngine
-returns-2 c = rw (← c .before .before .qp-number .ensures, c .enum-told .given .1)
+returns-2 c = engine-answer _ _ _ _ _ _ (rw (← c .before .before .qp-number .ensures .0, c .enum-told .given .1))
 
 pub read-engine-spec : {M : Type 1} → statement M
 read-engine-spec =

@@ -1,6 +1,7 @@
 -- `engines::read_state` meets its contract.
 use Rattle.engines.specs.Engines.{stateFrom}
-use Rattle.words.specs.Choice.{cases}
+use borrow.Author.Needs.{needs}
+use Rattle.engines.specs.Reading.{no-state}
 use Rattle.engines.proofs.read_state.Statement.{statement}
 use Rattle.engines.proofs.read_state.Tie as tie
 
@@ -33,8 +34,7 @@ unfolding stateFrom
 returns-7 c = rw (c .match .keys7)
 
 returns-8 : tie.Need-returns-8
-unfolding stateFrom
-returns-8 c = search cases depth 20
+returns-8 c = search (needs, no-state) depth 12
 
 pub read-state-spec : {M : Type 1} → statement M
 read-state-spec =

@@ -30,15 +30,19 @@ same-length c = search needs
 
 returns : tie.Need-returns
 returns c =
+    let d = c .before .before .before .before .before .before .before in
+    let e = d .before .before .before .before .before in
+    let f = e .before .before .before .before in
+    let g = f .before .before .before .before in
     seven-words _ _ _ _ _ _ _ _ _
     (c .before .before .write-le323 .ensures)
     (c .before .before .before .join-18 .ensures)
-    (c .before .before .before .before .before .before .before .write-le322 .ensures)
-    (c .before .before .before .before .before .before .before .before .join-14 .ensures)
-    (c .before .before .before .before .before .before .before .before .before .before .before .before .write-param2 .ensures)
-    (c .before .before .before .before .before .before .before .before .before .before .before .before .before .before .before .before .write-le32 .ensures)
-    (c .before .before .before .before .before .before .before .before .before .before .before .before .before .before .before .before .before .before .before .before .write-param .ensures)
-    (c .before .before .before .before .before .before .before .before .before .before .before .before .before .before .before .before .before .before .before .before .before .before .before .pre .0)
+    (d .write-le322 .ensures)
+    (d .before .join-14 .ensures)
+    (e .write-param2 .ensures)
+    (f .write-le32 .ensures)
+    (g .write-param .ensures)
+    (g .before .before .before .pre .0)
 
 pub write-words-spec : {M : Type 1} → statement M
 write-words-spec =

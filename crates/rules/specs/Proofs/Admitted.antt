@@ -1,99 +1,112 @@
--- A submission that comes to the admission is an event: refused, refused because of the record's state, or accepted.
+-- A submission is an event: refused, refused because of the record's state, accepted, or done at once.
 use mathlib.Core.Path.{_≡_, refl, sym, _∙_, ap, subst}
-use mathlib.Core.Bool.{Bool, true, false, not, true≢false}
+use mathlib.Core.Bool.{Bool, true, false, true≢false, false≢true}
 use mathlib.Core.List.{List, []}
-use mathlib.Core.Logic.{_⊎_, inl, inr}
-use Prim.Native.Nat.{ℕ, _+_, _*_, _≤_, _<_}
-use native.Mathlib.Decide.{decLt}
+use mathlib.Core.Logic.{inl, inr}
+use Prim.Native.Nat.{ℕ, _≤_, _<_}
 use native.Mathlib.Omega.{arith}
-use borrow.Author.Tests.{ltb-false}
-use lib.Dec.{ltb}
 use lib.ListN.{length}
 use lib.Seq.{getD-set-same}
 use Rattle.words.specs.Tests.{is-true}
-use Rattle.words.specs.Choice.{by-pick}
-use Rattle.words.specs.Parts.{part, splice, length-part, length-splice, splice-apart, part-splice}
-use Rattle.context.specs.Layout.{isRecord, recordSize, inUse}
-use Rattle.edges.specs.Edges.{verdictNumber}
-use Rattle.edges.specs.declared.Verdict.{Verdict}
-use Rattle.edges.specs.declared.Verdict.the-variants.{Permitted, NotPermitted}
+use Rattle.words.specs.Choice.{pick}
+use Rattle.words.specs.Parts.{part, length-part}
+use Rattle.context.specs.Layout.{recordSize}
+use Rattle.context.specs.declared.Record.{Record}
 use Rattle.requests.specs.declared.Command.the-variants as command
 use Rattle.requests.specs.declared.EngineRequest.the-variants as engine
 use Rattle.requests.specs.declared.Request.{Request}
 use Rattle.requests.specs.declared.Request.the-variants as request
-use Rattle.request_table.specs.Records.{recordOf, writesOf}
-use Rattle.request_table.specs.Mailboxes.{needOf}
+use Rattle.request_table.specs.Records.{recordOf, recordsOf, writesOf}
+use Rattle.mailboxes.specs.Mailboxes.{needOf}
 use Rattle.burst_table.specs.Bursts.{burstsOf}
+use Rattle.burst_table.specs.Sizes.{slotCount, slotRoom}
+use Rattle.burst_table.specs.Touched.{Fit, fit-more}
+use Rattle.burst_table.specs.Laws.{bursts-fit, bursts-room, need-small}
 use Rattle.checks.specs.Permission.{permissionOf}
-use Rattle.checks.specs.Content.{contentHolds}
+use Rattle.checks.specs.Verdicts.{verdictNumber}
+use Rattle.checks.specs.declared.Verdict.{Verdict}
+use Rattle.checks.specs.declared.Verdict.the-variants.{Permitted, Denied}
 use Rattle.answers.specs.Answers.{answerOf}
 use Rattle.answers.specs.Laws.{answer-agrees}
-use Rattle.bursts.specs.Bursts.{Fit}
 use Rattle.bursts.specs.Copies.{copies, length-copies, copies-in}
-use Rattle.bursts.specs.Table.{bursts-fit, bursts-room, need-small}
 use Rattle.bursts.specs.Effects.{writes-whole}
-use Rattle.slots.specs.Slots.{slot}
-use Rattle.rows.specs.Rows.{lowestFree}
-use Rattle.rows.specs.Holds.{clashPair, heldAgainst}
-use Rattle.rows.specs.Laws.{held-none, no-writer, Lowest, lowest-free-is}
-use Rattle.rows.specs.declared.SlotFound.{SlotFound}
-use Rattle.rows.specs.declared.SlotFound.the-variants.{At, Nothing}
+use Rattle.bursts.specs.Room.{roomOf, frontOf, length-room, length-filled, front-filled, other-filled, other-front-filled}
+use Rattle.records.specs.Memory.{recordIn, permissionIn}
+use Rattle.records.specs.Laws.{length-recordIn}
+use Rattle.slots.specs.Slots.{slot, isOccupied, occupiedStatus}
 use Rattle.slots.specs.declared.Slot.{Slot}
 use Rattle.slots.specs.declared.Status.{Status}
 use Rattle.slots.specs.declared.Status.the-variants.{Free, Running, Finished}
+use Rattle.rows.specs.Rows.{anySlot, lowestFree}
+use Rattle.rows.specs.Every.{none-each}
+use Rattle.holds.specs.Holds.{clashRecords, heldAgainst}
+use Rattle.rows.specs.Laws.{Lowest, lowest-free-is}
+use Rattle.holds.specs.Laws.{held-none, no-writer}
+use Rattle.rows.specs.declared.SlotFound.the-variants.{At}
 use Rattle.serial.specs.Core.{Passes}
-use Rattle.serial.specs.Slots.{Note as Noted, nothing as none, turned, taken as took, at-once, collected, runs, PassesAll, idle, turn, take}
+use Rattle.serial.specs.Slots.{runs, PassesAll, idle, turn, take, once}
+use Rattle.serial.specs.Told.{Heard, silence, sent, into, straight, out}
+use Rattle.rules.specs.declared.Decision.{Decision}
+use Rattle.rules.specs.declared.Decision.the-variants as decide
+use Rattle.rules.specs.declared.Refusal.{Refusal}
 use Rattle.rules.specs.declared.SubmitAnswer.the-variants as submit
-use Rattle.rules.specs.World.{World, slotRoom, roomOf, frontOf, statusAt}
-use Rattle.rules.specs.Admission.{Submitted, submitted, recordNow, taken, placed, judged, admit}
-use Rattle.rules.specs.Book.{Fed, onRecord}
-use Rattle.rules.specs.Calls.{Note, nothing, refused as refusedNote, accepted as acceptedNote, finished, emptied, requestNote}
+use Rattle.rules.specs.Numbers.{refusalNumber, forState}
+use Rattle.rules.specs.World.{World, statusAt}
+use Rattle.rules.specs.Admission.{worldTaken, worldClosed, applied}
+use Rattle.rules.specs.Book.{Fed, closeHca as closing, nop as resting}
+use Rattle.rules.specs.Calls.{Note, nothing, refused as refusedNote, accepted as acceptedNote, finished, emptied, Asked, asksInit}
+use Rattle.rules.specs.Calls.{asksClose, asksNop, asksRequest, asksNothing, fed, requestNote, submitNote, isInit, isDone}
+use Rattle.rules.specs.Laws.Lent.{Sized, lent-sized, open-fits}
+use Rattle.rules.specs.Laws.Decided.{Judging, Decided, plain, denied, takes, closes, rests, opens}
 use Rattle.rules.specs.Proofs.Agree.{whole-bytes}
-use Rattle.rules.specs.Proofs.System.{Place, gate, at, gateBytes, gatedBy, Sees, Writes, num, Left, left, MidOf, system}
-use Rattle.rules.specs.Proofs.View.{lookAt, slotView, viewOf, Fine, Sized, look-valid, look-same, length-look, others}
+use Rattle.rules.specs.Proofs.System.{Place, gate, at, Req, one, closeHca, nop, Num, number, gateBytes, gatedBy}
+use Rattle.rules.specs.Proofs.System.{Sees, Writes, own-seen, num, eff, Left, left, MidOf, join, system}
+use Rattle.rules.specs.Proofs.Shown.{plain as book, join-one}
+use Rattle.rules.specs.Proofs.View.{lookAt, slotView, slotAt, viewOf, Fine, look-valid, look-same, others}
 
 -- the note of a call, for the journal of `serial`
-abbrev pub noteFor : Note → Noted system
-noteFor nothing = none
-noteFor (refusedNote f n) = turned f n
-noteFor (acceptedNote f k) = took f k
-noteFor (finished f a) = at-once f a
-noteFor (emptied k a) = collected k a
+abbrev pub noteFor : Note → Heard system book
+noteFor nothing = silence
+noteFor (refusedNote f n) = sent f (number n)
+noteFor (acceptedNote f k) = into f k
+noteFor (finished f a) = straight f a
+noteFor (emptied k a) = out k a
 
 -- a call that leaves the world and notes nothing
-pub stays : (w : World) → Fine w w none
-stays w = record { ended = []; event = idle (record { looks = λ X. refl; slots = λ j. refl }) }
+pub stays : (w : World) → Fine w w silence
+stays w = record { note = _; tells = refl; ended = []; event = idle (record { looks = λ X. refl; slots = λ j. refl }) }
 
 -- ---- holds
 
-passes : (r q : Request) (a b : List ℕ) → clashPair r (writesOf q) (recordOf q) ≡ false → Passes system (onRecord r a) (onRecord q b)
-passes r q a b h = record { out = out; back = back; also = tt }
+-- two requests that do not clash: what one writes, the other does not see
+passes : (r q : Request) (a b : List ℕ) → clashRecords r (writesOf q) (recordsOf q) ≡ false → Passes system (one r a) (one q b)
+passes r q a b h = record { out = forth; back = back; also = tt }
   where
-    out : (X : Place) → Writes (onRecord r a) X → Sees (onRecord q b) X → ⊥
-    out gate x y = x
-    out (at X) x y = no-writer q r h (sym (x .1) ∙ y) (inl (is-true (writesOf r) (x .0)))
+    forth : (X : Place) → Writes (one r a) X → Sees (one q b) X → ⊥
+    forth gate x y = x
+    forth (at X) x y = no-writer q r X h y (own-seen r X (x .1)) (inl (is-true (writesOf r) (x .0)))
 
-    back : (X : Place) → Writes (onRecord q b) X → Sees (onRecord r a) X → ⊥
+    back : (X : Place) → Writes (one q b) X → Sees (one r a) X → ⊥
     back gate x y = x
-    back (at X) x y = no-writer q r h (sym y ∙ x .1) (inr (is-true (writesOf q) (x .0)))
+    back (at X) x y = no-writer q r X h (own-seen q X (x .1)) y (inr (is-true (writesOf q) (x .0)))
 
 -- what a slot that runs shows
-pub record Seen (k : ℕ) (room : List ℕ) (s : Status) (f : Fed) (p : Left) : Type 0 where
+pub record Seen (k : ℕ) (room : List ℕ) (s : Status) (f : Req) (p : Left) : Type 0 where
   pub request : Request
   pub moved : ℕ
   pub is : s ≡ Running moved request
-  pub asks : onRecord request (frontOf k request room) ≡ f
+  pub asks : one request (frontOf k request room) ≡ f
 
-pub seen-runs : (k : ℕ) (room : List ℕ) (s : Status) (f : Fed) (p : Left) → slotView k room s ≡ runs f p → Seen k room s f p
+pub seen-runs : (k : ℕ) (room : List ℕ) (s : Status) (f : Req) (p : Left) → slotView k room s ≡ runs f p → Seen k room s f p
 seen-runs k room Free f p e = let z : _≡_ {A = ℕ} 0 1 = cc in absurd (omega arith)
 seen-runs k room (Running m q) f p e = record { request = q; moved = m; is = refl; asks = cc }
 seen-runs k room (Finished m q) f p e = let z : _≡_ {A = ℕ} 0 1 = cc in absurd (omega arith)
 
-pub passes-all : (w : World) (q : Request) (mail : List ℕ) → heldAgainst (w .row) q ≡ false → PassesAll system (viewOf w) (onRecord q mail)
+passes-all : (w : World) (q : Request) (mail : List ℕ) → heldAgainst (w .row) q ≡ false → PassesAll system (viewOf w) (one q mail)
 unfolding statusAt
 passes-all w q mail h j f p e =
     let s : Seen j (w .room) (statusAt j (w .row)) f p = seen-runs j (w .room) (statusAt j (w .row)) f p e in
-    subst (λ (x : Fed). Passes system x (onRecord q mail)) (s .asks)
+    subst (λ (x : Req). Passes system x (one q mail)) (s .asks)
     (passes (s .request) q (frontOf j (s .request) (w .room)) mail (held-none (w .row) q h j (s .request) (s .moved) (s .is)))
 
 -- ---- a reader's record is a queue pair's
@@ -110,7 +123,7 @@ reader-size (request.Engine (engine.ReadAll n)) e = refl
 reader-size (request.Engine (engine.Write p s n psn)) e = absurd (true≢false e)
 
 -- once all bursts of a read are copied, the slot's part of the room answers as the record does
-pub read-answers : (q : Request) (c buf : List ℕ) → writesOf q ≡ false → length c ≡ recordSize (recordOf q) → length buf ≡ 256
+pub read-answers : (q : Request) (c buf : List ℕ) → writesOf q ≡ false → length c ≡ recordSize (recordOf q) → length buf ≡ slotRoom
     → answerOf q (copies (burstsOf q) c buf) ≡ answerOf q c
 read-answers q c buf rd e f =
     let h : Fit (length c) (burstsOf q) = rw e (bursts-fit q) in
@@ -120,118 +133,165 @@ read-answers q c buf rd e f =
 
 -- ---- all bursts are still to move
 
-begun : (q : Request) (mail buf c : List ℕ) → needOf q ≤ length mail → length c ≡ recordSize (recordOf q) → length buf ≡ 256
-    → (b : Bool) → writesOf q ≡ b → MidOf b q mail (left (burstsOf q) buf) c c
-begun q mail buf c n e f true wr = writes-whole q mail c e ∙ sym (whole-bytes q mail c n e)
-begun q mail buf c n e f false rd = read-answers q c buf rd e f
+begun : (q : Request) (mail buf : List ℕ) (s : Place → List ℕ) → needOf q ≤ length mail
+    → length (s (at (recordOf q))) ≡ recordSize (recordOf q)
+    → length buf ≡ slotRoom → (b : Bool) → writesOf q ≡ b → MidOf b q mail (left (burstsOf q) buf) s s
+begun q mail buf s n e f true wr = writes-whole q mail (s (at (recordOf q))) e ∙ sym (whole-bytes q mail (s (at (recordOf q))) n e)
+begun q mail buf s n e f false rd = read-answers q (join (recordsOf q) s) buf rd (ap length (join-one q s) ∙ e) f
 
--- ---- the admission
+-- ---- a request whose record is judged
 
-module _ (w : World) (z : Sized w) (o : w .hca .«open» ≡ true) (fits : inUse (w .hca .logs) ≤ length (w .store)) (q : Request) (mail : List ℕ)
-    (valid : isRecord (w .hca .logs) (recordOf q) ≡ true) where
-  abbrev Ok : Submitted → Type 0
-  Ok s = Fine w (s .world) (noteFor (requestNote q mail (s .answer)))
-
+module _ (w : World) (mail : List ℕ) (q : Request) (g : Judging w q mail) where
   front : List ℕ
   front = part 0 (needOf q) mail
 
-  record-here : lookAt w (at (recordOf q)) ≡ recordNow w q
-  unfolding recordNow
-  record-here = look-valid w (recordOf q) valid
-
-  verdict : (v : Verdict) → permissionOf q (recordNow w q) ≡ v → num (onRecord q front) (lookAt w) ≡ verdictNumber v
+  long : length front ≡ needOf q
   unfolding front
+  long = length-part 0 (needOf q) mail (omega (arith, g .enough))
+
+  judge-sized : Sized w
+  judge-sized = lent-sized w (g .asking .passing .lent)
+
+  -- the book's verdict on the record as it stands
+  verdict : (v : Verdict) → permissionIn (w .hca .logs) (w .memory) q ≡ v → num (one q front) (lookAt w) ≡ number (verdictNumber v)
+  unfolding front permissionIn
   verdict v e =
-      ap (λ (b : Bool). gatedBy (gateBytes b) (verdictNumber (permissionOf q (lookAt w (at (recordOf q)))))) o
-      ∙ ap (λ (c : List ℕ). verdictNumber (permissionOf q c)) record-here ∙ ap verdictNumber e
+      ap (λ (b : Bool). gatedBy (gateBytes b (w .hca .logs)) (number (verdictNumber (permissionOf q (lookAt w (at (recordOf q)))))))
+      (g .asking .opened)
+      ∙ ap (λ (c : List ℕ). number (verdictNumber (permissionOf q c))) (look-valid w (recordOf q) (g .asking .valid))
+      ∙ ap (λ (x : Verdict). number (verdictNumber x)) e
 
-  module _ (enough : needOf q ≤ length mail) (free : heldAgainst (w .row) q ≡ false) where
-    long : length front ≡ needOf q
-    unfolding front
-    long = length-part 0 (needOf q) mail (omega arith)
+  pub denied-ok : (v : Verdict) → permissionIn (w .hca .logs) (w .memory) q ≡ v → Fine w w (sent (fed q mail) (number (verdictNumber v)))
+  unfolding front
+  denied-ok v e = record {
+    note = _;
+    tells = refl;
+    ended = [];
+    event = turn (record { looks = λ X. refl; slots = λ j. refl }) (passes-all w q front (g .free)) (verdict v e);
+  }
 
-    module _ (k : ℕ) (k8 : k < 8) (was : statusAt k (w .row) ≡ Free) (permitted : permissionOf q (recordNow w q) ≡ Permitted) where
-      u : World
-      u = taken w q mail k
+  module _ (k : ℕ) (lowest : lowestFree 0 (w .row) ≡ At k) (permitted : permissionIn (w .hca .logs) (w .memory) q ≡ Permitted) where
+    u : World
+    u = worldTaken w q mail k
 
-      placed-fits : k * slotRoom + length front ≤ length (w .room)
-      placed-fits = omega (arith, long, need-small q, z .roomed)
+    l : Lowest (w .row) k
+    l = lowest-free-is (w .row) k lowest
 
-      room-is : u .room ≡ splice (k * slotRoom) front (w .room)
-      unfolding u taken front
-      room-is = refl
+    k8 : k < slotCount
+    k8 = omega (arith, l .inside, judge-sized .rowed)
 
-      room-length : length (u .room) ≡ length (w .room)
-      room-length = ap length room-is ∙ length-splice (k * slotRoom) front (w .room) placed-fits
+    fits : length front ≤ slotRoom
+    fits = omega (arith, long, need-small q)
 
-      here : statusAt k (u .row) ≡ Running 0 q
-      unfolding u taken statusAt
-      here = ap (λ (s : Slot). s .status) (getD-set-same (w .row) k (slot (Running 0 q)) (slot Free) (omega (arith, z .rowed)))
+    was : statusAt k (w .row) ≡ Free
+    unfolding statusAt
+    was = l .free
 
-      front-here : frontOf k q (u .room) ≡ front
-      unfolding frontOf
-      front-here =
-          ap (part (k * slotRoom) (needOf q)) room-is
-          ∙ ap (λ (n : ℕ). part (k * slotRoom) n (splice (k * slotRoom) front (w .room))) (sym long)
-          ∙ part-splice (k * slotRoom) front (w .room) placed-fits
+    here : statusAt k (u .row) ≡ Running 0 q
+    unfolding u worldTaken statusAt
+    here = ap (λ (s : Slot). s .status) (getD-set-same (w .row) k (slot (Running 0 q)) (slot Free) (l .inside))
 
-      apart : (j n : ℕ) → j < 8 → ¬ (j ≡ k) → n ≤ 256 → part (j * slotRoom) n (u .room) ≡ part (j * slotRoom) n (w .room)
-      apart j n h d l =
-          ap (part (j * slotRoom) n) room-is
-          ∙ splice-apart (k * slotRoom) front (w .room) placed-fits (j * slotRoom) n (omega (arith, z .roomed)) (go (decLt j k))
-        where
-          go : Dec (j < k) → (k * slotRoom + length front ≤ j * slotRoom) ⊎ (j * slotRoom + n ≤ k * slotRoom)
-          go (yes y) = inr (omega arith)
-          go (no y) = inl (omega (arith, long, need-small q))
+    front-here : frontOf k q (u .room) ≡ front
+    unfolding u worldTaken front
+    front-here = front-filled k front (w .room) k8 (judge-sized .roomed) fits q long
 
-      rooms : (j : ℕ) → j < 8 → ¬ (j ≡ k) → roomOf j (u .room) ≡ roomOf j (w .room)
-      unfolding roomOf
-      rooms j h d = apart j slotRoom h d (omega arith)
+    buffer : length (roomOf k (u .room)) ≡ slotRoom
+    unfolding u worldTaken front
+    buffer = length-room k (u .room) k8 (omega (arith, judge-sized .roomed, length-filled k front (w .room) k8 (judge-sized .roomed) fits))
 
-      fronts : (j : ℕ) (r : Request) → j < 8 → ¬ (j ≡ k) → frontOf j r (u .room) ≡ frontOf j r (w .room)
-      unfolding frontOf
-      fronts j r h d = apart j (needOf r) h d (need-small r)
+    but : (j : ℕ) → ¬ (j ≡ k) → slotAt u j ≡ slotAt w j
+    unfolding u worldTaken front
+    but =
+        others w u k (slot (Running 0 q)) judge-sized refl
+        (λ j h d. other-filled k front (w .room) k8 (judge-sized .roomed) fits j h d)
+        (λ j r h d. other-front-filled k front (w .room) k8 (judge-sized .roomed) fits j r h d)
 
-      buffer : length (roomOf k (u .room)) ≡ 256
-      unfolding roomOf
-      buffer = length-part (k * slotRoom) slotRoom (u .room) (omega (arith, room-length, z .roomed))
+    looks : (X : Place) → lookAt u X ≡ lookAt w X
+    unfolding u worldTaken
+    looks X = look-same w u refl refl X
 
-      looks : (X : Place) → lookAt u X ≡ lookAt w X
-      unfolding u taken
-      looks X = look-same w u refl refl X
+    stored : length (lookAt w (at (recordOf q))) ≡ recordSize (recordOf q)
+    stored =
+        ap length (look-valid w (recordOf q) (g .asking .valid))
+        ∙ length-recordIn (w .hca .logs) (w .memory)
+        (open-fits w (g .asking .passing .lent) (g .asking .passing .possible) (g .asking .opened)) (recordOf q) (g .asking .valid)
 
-      accept-ok : Ok (submitted (submit.Accepted k) (taken w q mail k))
-      unfolding u front taken
-      accept-ok = record {
-        ended = [];
-        event =
-            take (left (burstsOf q) (roomOf k (u .room))) looks (ap (slotView k (w .room)) was)
-            (ap (slotView k (u .room)) here ∙ ap (λ (m : List ℕ). runs (onRecord q m) (left (burstsOf q) (roomOf k (u .room)))) front-here)
-            (others w u k (slot (Running 0 q)) z refl rooms fronts)
-            (passes-all w q front free)
-            (verdict Permitted permitted)
-            (begun q front (roomOf k (u .room)) (lookAt w (at (recordOf q))) (omega (arith, long)) (length-look w fits (recordOf q) valid) buffer (writesOf q) refl);
-      }
-
-    placed-ok : (f : SlotFound) → lowestFree 0 (w .row) ≡ f → permissionOf q (recordNow w q) ≡ Permitted → Ok (placed w q mail f)
-    unfolding placed statusAt
-    placed-ok (At k) e p =
-        let l : Lowest (w .row) k = lowest-free-is (w .row) k e in
-        accept-ok k (omega (arith, l .inside, z .rowed)) (l .free) p
-    placed-ok Nothing e p = stays w
-
-    judged-ok : (v : Verdict) → permissionOf q (recordNow w q) ≡ v → Ok (judged w q mail v)
-    unfolding judged front
-    judged-ok Permitted e = placed-ok (lowestFree 0 (w .row)) refl e
-    judged-ok NotPermitted e = record {
+    pub taken-ok : Fine w (worldTaken w q mail k) (into (fed q mail) k)
+    unfolding u front
+    taken-ok = record {
+      note = _;
+      tells = refl;
       ended = [];
-      event = turn (record { looks = λ X. refl; slots = λ j. refl }) (passes-all w q front free) (verdict NotPermitted e);
+      event =
+          take (left (burstsOf q) (roomOf k (u .room))) looks (ap (slotView k (w .room)) was)
+          (ap (slotView k (u .room)) here ∙ ap (λ (m : List ℕ). runs (one q m) (left (burstsOf q) (roomOf k (u .room)))) front-here)
+          but
+          (passes-all w q front (g .free))
+          (verdict Permitted permitted)
+          (begun q front (roomOf k (u .room)) (lookAt w) (omega (arith, long)) stored buffer (writesOf q) refl);
     }
 
-  pub admit-ok : Ok (admit w q mail)
-  unfolding admit
-  admit-ok =
-      by-pick Ok (ltb (length mail) (needOf q)) _ _ (λ _. stays w)
-      (λ a. by-pick Ok (not (contentHolds q mail)) _ _ (λ _. stays w)
-      (λ _. by-pick Ok (heldAgainst (w .row) q) _ _ (λ _. stays w)
-      (λ h. judged-ok (ltb-false (length mail) (needOf q) a) h (permissionOf q (recordNow w q)) refl)))
+-- ---- commands that are done at once
+
+none-running : (w : World) → anySlot isOccupied (w .row) ≡ false → (j : ℕ) (f : Req) (p : Left) → slotAt w j ≡ runs f p → ⊥
+unfolding statusAt
+none-running w n j f p e =
+    let s : Seen j (w .room) (statusAt j (w .row)) f p = seen-runs j (w .room) (statusAt j (w .row)) f p e in
+    let a : occupiedStatus (statusAt j (w .row)) ≡ false = none-each isOccupied (w .row) refl n j in
+    false≢true (sym a ∙ ap occupiedStatus (s .is))
+
+closed-ok : (w : World) → w .hca .«open» ≡ true → anySlot isOccupied (w .row) ≡ false → Fine w (worldClosed w) (straight closing [])
+unfolding worldClosed
+closed-ok w o n = record {
+  note = _;
+  tells = refl;
+  ended = _;
+  event =
+      once {r = closeHca} effect (λ j. refl) (λ j f p e. absurd (none-running w n j f p e))
+      (ap (λ (b : Bool). gatedBy (gateBytes b (w .hca .logs)) (number 0)) o) refl;
+}
+  where
+    effect : (X : Place) → lookAt (worldClosed w) X ≡ eff closeHca (lookAt w) X
+    effect gate = refl
+    effect (at X) = refl
+
+pub nop-ok : (w : World) → Fine w w (straight resting [])
+nop-ok w = record {
+  note = _;
+  tells = refl;
+  ended = _;
+  event = once {r = nop} effect (λ j. refl) (λ j f p e. record { out = forth f; back = back f; also = tt }) refl refl;
+}
+  where
+    effect : (X : Place) → lookAt w X ≡ eff nop (lookAt w) X
+    effect gate = refl
+    effect (at X) = refl
+
+    forth : (f : Req) (X : Place) → Writes f X → ¬ Sees nop X
+    forth f gate x y = y
+    forth f (at X) x y = y
+
+    back : (f : Req) (X : Place) → Writes nop X → ¬ Sees f X
+    back f gate x y = x
+    back f (at X) x y = x
+
+-- ---- a submission
+
+-- a refusal that is not because of the record's state is not noted
+pub quiet : (mail : List ℕ) (a : Asked) (c : Refusal) → forState c ≡ false → nothing ≡ submitNote mail a (submit.Refused c)
+quiet mail asksInit c e = refl
+quiet mail asksClose c e = refl
+quiet mail asksNop c e = refl
+quiet mail (asksRequest q) c e = rw e
+quiet mail asksNothing c e = refl
+
+-- whatever is decided but an initialisation, once applied, is an event
+pub applied-ok : (w : World) (mail : List ℕ) (a : Asked) (d : Decision) → Decided w mail a d
+    → pick (isInit a) (isDone (applied w mail d .answer)) false ≡ false
+    → Fine w (applied w mail d .world) (noteFor (submitNote mail a (applied w mail d .answer)))
+applied-ok w mail a d (plain {a = x} c e) i = subst (λ (n : Note). Fine w w (noteFor n)) (quiet mail x c e) (stays w)
+applied-ok w mail a d (denied {q = q} {d = y} g e) i = denied-ok w mail q g (Denied y) e
+applied-ok w mail a d (takes {q = q} {k = k} g e f) i = taken-ok w mail q g k f e
+applied-ok w mail a d (closes o n) i = closed-ok w o n
+applied-ok w mail a d rests i = nop-ok w
+applied-ok w mail a d (opens p o e) i = absurd (true≢false i)

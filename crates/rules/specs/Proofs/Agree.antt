@@ -26,7 +26,7 @@ use Rattle.requests.specs.declared.Request.{Request}
 use Rattle.requests.specs.declared.Request.the-variants as request
 use Rattle.request_table.specs.Sizes.{owned-size}
 use Rattle.request_table.specs.Records.{recordOf}
-use Rattle.request_table.specs.Mailboxes.{storedOf, needOf}
+use Rattle.mailboxes.specs.Mailboxes.{storedOf, needOf}
 use Rattle.burst_table.specs.Bursts.{psnPlace}
 use Rattle.byte_rule.specs.Bytes.{sw2hwByte, resizeByte, psnByte, writeByte, byteOf}
 use Rattle.rules.specs.Whole.{ownedEffect, resizeEffect, setPsn, psnEffect, wholeEffect}

@@ -13,8 +13,9 @@ use Rattle.words.specs.Maps.{mapFrom, length-mapFrom, map-cong, map-map, map-sa
 use Rattle.edges.specs.Edges.{toOf}
 use Rattle.edges.specs.declared.State.{State}
 use Rattle.edges.specs.declared.Edge.{Edge}
-use Rattle.edges.specs.declared.Edge.the-variants.{ResetToInit, InitToInit, InitToRtr, RtrToRts, RtsToRts, SqeToRts, RtsToSqd, SqdToSqd, SqdToRts, ToErr, ToReset}
-use Rattle.request_table.specs.Mailboxes.{edgeNeed}
+use Rattle.edges.specs.declared.Edge.the-variants.{ResetToInit, InitToInit, InitToRtr, RtrToRts, RtsToRts}
+use Rattle.edges.specs.declared.Edge.the-variants.{SqeToRts, RtsToSqd, SqdToSqd, SqdToRts, ToErr, ToReset}
+use Rattle.mailboxes.specs.Mailboxes.{edgeNeed}
 use Rattle.byte_rule.specs.Taken.{takesWord, wordOf, zeroes}
 use Rattle.byte_rule.specs.Bytes.{withState, takenByte, edgeByte}
 use Rattle.rules.specs.Whole.{takeWords, setState, edgeEffect}
@@ -96,7 +97,8 @@ module _ (image r : List ℕ) (whole : length r ≡ 256) where
 
   also-word : 164 ≤ length image → (at : ℕ) → areWords at at ≡ true
       → {t : ℕ → Bool} {m : List ℕ} → Takes t m → Takes (λ w. either (t w) (eqb w at)) (takeWords at at image m)
-  also-word long at e {t} h = same-test (λ w. either (t w) (eqb w at)) (λ w. ap (either (t w)) (within-one at w)) (also-words long at at e h)
+  also-word long at e {t} h = same-test (λ w. either (t w) (eqb w at)) (λ w. ap (either (t w)) (within-one at w))
+      (also-words long at at e h)
 
   state-after : (e : Edge) → zeroes e ≡ false → {m : List ℕ} → Takes (takesWord e) m → setState (toOf e) m ≡ mapFrom (edgeByte e image) 0 r
   unfolding takenByte edgeByte

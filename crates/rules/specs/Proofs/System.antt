@@ -1,28 +1,45 @@
 -- The plain book as a system of `serial`: what each request sees, holds and writes, its verdict, answer and effect, and what it is
 -- to be under way.
-use mathlib.Core.Path.{_≡_, refl, ap, ap₂, subst₂}
+use mathlib.Core.Path.{_≡_, refl, sym, ap, ap₂, subst₂}
 use mathlib.Core.Bool.{Bool, true, false}
-use mathlib.Core.List.{List, [], _∷_}
+use mathlib.Core.List.{List, [], _∷_, _++_}
+use mathlib.Core.Logic.{inl, inr}
 use Prim.Native.Nat.{ℕ}
 use lib.Dec.{T}
-use Rattle.context.specs.declared.Record.{Record}
+use Rattle.context.specs.Layout.{countOf}
 use Rattle.context.specs.Records.{record?}
-use Rattle.edges.specs.Edges.{verdictNumber}
+use Rattle.context.specs.declared.Kind.the-variants as kind
+use Rattle.context.specs.declared.Logs.{Logs}
+use Rattle.context.specs.declared.Record.{Record}
 use Rattle.requests.specs.declared.Request.{Request}
-use Rattle.request_table.specs.Records.{recordOf, writesOf}
+use Rattle.request_table.specs.Records.{recordOf, recordsOf, writesOf}
+use Rattle.request_table.specs.Listed.{In}
 use Rattle.checks.specs.Permission.{permissionOf}
+use Rattle.checks.specs.Verdicts.{verdictNumber}
 use Rattle.answers.specs.Answers.{answerOf}
 use Rattle.byte_rule.specs.Bytes.{byteOf}
 use Rattle.bursts.specs.Bursts.{after}
 use Rattle.bursts.specs.Copies.{copies}
 use Rattle.serial.specs.Core.{Sys}
 use Rattle.rules.specs.Whole.{wholeEffect}
-use Rattle.rules.specs.Book.{Fed, onRecord, closeHca, nop}
 
--- a place of the book: whether it is open, and each record
+-- a place of the book: whether it is open, with its counts, and each record
 pub data Place : Type 0 where
   gate : Place
   at : Record → Place
+
+-- What a slot holds, with its mailbox bytes, or a command that is done at once. What the book is fed (`Fed`) is a function of it
+-- (`asks` in Shown): a later request keeps more in its slot than it was asked with.
+pub data Req : Type 0 where
+  one : Request → List ℕ → Req
+  closeHca : Req
+  nop : Req
+
+-- The verdict: a number, of which 0 is none; or that what the slot holds does not belong to these records, which no call gives. The
+-- second is for a request whose slot holds names that it read in records (request 2 of the later ones).
+pub data Num : Type 0 where
+  number : ℕ → Num
+  stale : Num
 
 abbrev pub choose : {P A : Type 0} → Dec P → A → A → A
 choose (yes p) a b = a
@@ -36,30 +53,34 @@ pub choose-no : {P A : Type 0} (d : Dec P) (a b : A) → ¬ P → choose d a b �
 choose-no (yes y) a b p = absurd (p y)
 choose-no (no y) a b p = refl
 
--- open or closed, as contents; a closed book gives 4
-abbrev pub gateBytes : Bool → List ℕ
-gateBytes true = 1 ∷ []
-gateBytes false = []
+-- open or closed, as contents, with the counts by which a name in a record is judged; a closed book gives 4
+abbrev pub gateBytes : Bool → Logs → List ℕ
+gateBytes true g = countOf g kind.Cq ∷ countOf g kind.Eq ∷ []
+gateBytes false g = []
 
-abbrev pub gatedBy : List ℕ → ℕ → ℕ
-gatedBy [] n = 4
+abbrev pub gatedBy : List ℕ → Num → Num
+gatedBy [] n = number 4
 gatedBy (x ∷ l) n = n
 
-abbrev pub Sees : Fed → Place → Type 0
-Sees (onRecord q mail) gate = Unit {0}
-Sees (onRecord q mail) (at X) = X ≡ recordOf q
+abbrev pub Sees : Req → Place → Type 0
+Sees (one q mail) gate = Unit {0}
+Sees (one q mail) (at X) = In X (recordsOf q)
 Sees closeHca gate = Unit {0}
 Sees closeHca (at X) = ⊥
 Sees nop gate = ⊥
 Sees nop (at X) = ⊥
 
-abbrev pub Writes : Fed → Place → Type 0
-Writes (onRecord q mail) gate = ⊥
-Writes (onRecord q mail) (at X) = T (writesOf q) × (X ≡ recordOf q)
+abbrev pub Writes : Req → Place → Type 0
+Writes (one q mail) gate = ⊥
+Writes (one q mail) (at X) = T (writesOf q) × (X ≡ recordOf q)
 Writes closeHca gate = Unit {0}
 Writes closeHca (at X) = ⊥
 Writes nop gate = ⊥
 Writes nop (at X) = ⊥
+
+-- the record that a request writes is one that it sees
+pub own-seen : (q : Request) (X : Record) → X ≡ recordOf q → In X (recordsOf q)
+own-seen q X e = inl (sym e)
 
 decT : (b : Bool) → Dec (T b)
 decT true = yes tt
@@ -70,27 +91,32 @@ two q X (yes a) (yes b) = yes (a, b)
 two q X (yes a) (no b) = no (λ z. b (z .1))
 two q X (no a) b = no (λ z. a (z .0))
 
-pub writes? : (f : Fed) (X : Place) → Dec (Writes f X)
-writes? (onRecord q mail) gate = no (λ z. z)
-writes? (onRecord q mail) (at X) = two q X (decT (writesOf q)) (record? X (recordOf q))
+pub writes? : (f : Req) (X : Place) → Dec (Writes f X)
+writes? (one q mail) gate = no (λ z. z)
+writes? (one q mail) (at X) = two q X (decT (writesOf q)) (record? X (recordOf q))
 writes? closeHca gate = yes tt
 writes? closeHca (at X) = no (λ z. z)
 writes? nop gate = no (λ z. z)
 writes? nop (at X) = no (λ z. z)
 
-abbrev pub num : Fed → (Place → List ℕ) → ℕ
-num (onRecord q mail) s = gatedBy (s gate) (verdictNumber (permissionOf q (s (at (recordOf q)))))
-num closeHca s = gatedBy (s gate) 0
-num nop s = 0
+-- the bytes of some records, one behind the other
+abbrev pub join : List Record → (Place → List ℕ) → List ℕ
+join [] s = []
+join (X ∷ Xs) s = s (at X) ++ join Xs s
 
-abbrev pub ans : Fed → (Place → List ℕ) → List ℕ
-ans (onRecord q mail) s = answerOf q (s (at (recordOf q)))
+abbrev pub num : Req → (Place → List ℕ) → Num
+num (one q mail) s = gatedBy (s gate) (number (verdictNumber (permissionOf q (s (at (recordOf q))))))
+num closeHca s = gatedBy (s gate) (number 0)
+num nop s = number 0
+
+abbrev pub ans : Req → (Place → List ℕ) → List ℕ
+ans (one q mail) s = answerOf q (join (recordsOf q) s)
 ans closeHca s = []
 ans nop s = []
 
-abbrev pub eff : Fed → (Place → List ℕ) → Place → List ℕ
-eff (onRecord q mail) s gate = s gate
-eff (onRecord q mail) s (at X) = choose (writes? (onRecord q mail) (at X)) (wholeEffect q mail (s (at X))) (s (at X))
+abbrev pub eff : Req → (Place → List ℕ) → Place → List ℕ
+eff (one q mail) s gate = s gate
+eff (one q mail) s (at X) = choose (writes? (one q mail) (at X)) (wholeEffect q mail (s (at X))) (s (at X))
 eff closeHca s gate = []
 eff closeHca s (at X) = s (at X)
 eff nop s gate = s gate
@@ -104,54 +130,76 @@ pub record Left : Type 0 where
 abbrev pub left : List ℕ → List ℕ → Left
 left js buf = record { bursts = js; buffer = buf }
 
--- Begun when the record was c; it is now d. A writer: the bursts that are left, from d, make the whole effect on c. A reader:
--- once the bursts that are left are copied from d, the buffer gives the answer of c.
-abbrev pub MidOf : Bool → Request → List ℕ → Left → List ℕ → List ℕ → Type 0
-MidOf true q mail p c d = after (byteOf q mail) (p .bursts) d ≡ wholeEffect q mail c
-MidOf false q mail p c d = answerOf q (copies (p .bursts) d (p .buffer)) ≡ answerOf q c
+-- Begun in s; it is now w. A writer: the bursts that are left, from the record as it is, make the whole effect on the record as it was.
+-- A reader: once the bursts that are left are copied from its records as they are, the buffer gives the answer of the records as they
+-- were.
+abbrev pub MidOf : Bool → Request → List ℕ → Left → (Place → List ℕ) → (Place → List ℕ) → Type 0
+MidOf true q mail p s w = after (byteOf q mail) (p .bursts) (w (at (recordOf q))) ≡ wholeEffect q mail (s (at (recordOf q)))
+MidOf false q mail p s w = answerOf q (copies (p .bursts) (join (recordsOf q) w) (p .buffer)) ≡ answerOf q (join (recordsOf q) s)
 
-abbrev pub Mid : Fed → Left → (Place → List ℕ) → (Place → List ℕ) → Type 0
-Mid (onRecord q mail) p s w = MidOf (writesOf q) q mail p (s (at (recordOf q))) (w (at (recordOf q)))
+abbrev pub Mid : Req → Left → (Place → List ℕ) → (Place → List ℕ) → Type 0
+Mid (one q mail) p s w = MidOf (writesOf q) q mail p s w
 Mid closeHca p s w = Unit {0}
 Mid nop p s w = Unit {0}
 
-pub writes-sees : (f : Fed) (X : Place) → Writes f X → Sees f X
-writes-sees (onRecord q mail) gate w = tt
-writes-sees (onRecord q mail) (at X) w = w .1
+pub writes-sees : (f : Req) (X : Place) → Writes f X → Sees f X
+writes-sees (one q mail) gate w = tt
+writes-sees (one q mail) (at X) w = own-seen q X (w .1)
 writes-sees closeHca gate w = tt
 writes-sees closeHca (at X) w = w
 writes-sees nop gate w = w
 writes-sees nop (at X) w = w
 
-pub num-local : (f : Fed) (s t : Place → List ℕ) → ((X : Place) → Sees f X → s X ≡ t X) → num f s ≡ num f t
-num-local (onRecord q mail) s t h = ap₂ (λ g c. gatedBy g (verdictNumber (permissionOf q c))) (h gate tt) (h (at (recordOf q)) refl)
-num-local closeHca s t h = ap (λ g. gatedBy g 0) (h gate tt)
+-- ---- locality
+
+pub join-local : (Xs : List Record) (s t : Place → List ℕ) → ((X : Record) → In X Xs → s (at X) ≡ t (at X)) → join Xs s ≡ join Xs t
+join-local [] s t h = refl
+join-local (X ∷ Xs) s t h = ap₂ (λ (a b : List ℕ). a ++ b) (h X (inl refl)) (join-local Xs s t (λ Y y. h Y (inr y)))
+
+own-local : (q : Request) (s t : Place → List ℕ) → ((X : Record) → In X (recordsOf q) → s (at X) ≡ t (at X))
+    → s (at (recordOf q)) ≡ t (at (recordOf q))
+own-local q s t h = h (recordOf q) (own-seen q (recordOf q) refl)
+
+pub num-local : (f : Req) (s t : Place → List ℕ) → ((X : Place) → Sees f X → s X ≡ t X) → num f s ≡ num f t
+num-local (one q mail) s t h =
+    ap₂ (λ g c. gatedBy g (number (verdictNumber (permissionOf q c)))) (h gate tt) (own-local q s t (λ X y. h (at X) y))
+num-local closeHca s t h = ap (λ g. gatedBy g (number 0)) (h gate tt)
 num-local nop s t h = refl
 
-pub ans-local : (f : Fed) (s t : Place → List ℕ) → ((X : Place) → Sees f X → s X ≡ t X) → ans f s ≡ ans f t
-ans-local (onRecord q mail) s t h = ap (answerOf q) (h (at (recordOf q)) refl)
+pub ans-local : (f : Req) (s t : Place → List ℕ) → ((X : Place) → Sees f X → s X ≡ t X) → ans f s ≡ ans f t
+ans-local (one q mail) s t h = ap (answerOf q) (join-local (recordsOf q) s t (λ X y. h (at X) y))
 ans-local closeHca s t h = refl
 ans-local nop s t h = refl
 
-pub eff-local : (f : Fed) (s t : Place → List ℕ) → ((X : Place) → Sees f X → s X ≡ t X) → (X : Place) → Writes f X → eff f s X ≡ eff f t X
-eff-local (onRecord q mail) s t h gate w = absurd w
-eff-local (onRecord q mail) s t h (at X) w = ap (λ c. choose (writes? (onRecord q mail) (at X)) (wholeEffect q mail c) c) (h (at X) (w .1))
+pub eff-local : (f : Req) (s t : Place → List ℕ) → ((X : Place) → Sees f X → s X ≡ t X) → (X : Place) → Writes f X → eff f s X ≡ eff f t X
+eff-local (one q mail) s t h gate w = absurd w
+eff-local (one q mail) s t h (at X) w =
+    ap (λ c. choose (writes? (one q mail) (at X)) (wholeEffect q mail c) c) (h (at X) (own-seen q X (w .1)))
 eff-local closeHca s t h gate w = refl
 eff-local closeHca s t h (at X) w = absurd w
 eff-local nop s t h gate w = absurd w
 eff-local nop s t h (at X) w = absurd w
 
-pub eff-frame : (f : Fed) (s : Place → List ℕ) (X : Place) → ¬ Writes f X → eff f s X ≡ s X
-eff-frame (onRecord q mail) s gate n = refl
-eff-frame (onRecord q mail) s (at X) n = choose-no (writes? (onRecord q mail) (at X)) (wholeEffect q mail (s (at X))) (s (at X)) n
+pub eff-frame : (f : Req) (s : Place → List ℕ) (X : Place) → ¬ Writes f X → eff f s X ≡ s X
+eff-frame (one q mail) s gate n = refl
+eff-frame (one q mail) s (at X) n = choose-no (writes? (one q mail) (at X)) (wholeEffect q mail (s (at X))) (s (at X)) n
 eff-frame closeHca s gate n = absurd (n tt)
 eff-frame closeHca s (at X) n = refl
 eff-frame nop s gate n = refl
 eff-frame nop s (at X) n = refl
 
-pub mid-local : (f : Fed) (p : Left) (s t w u : Place → List ℕ) → ((X : Place) → Sees f X → s X ≡ t X)
+mid-of : (b : Bool) (q : Request) (mail : List ℕ) (p : Left) (s t w u : Place → List ℕ)
+    → ((X : Record) → In X (recordsOf q) → s (at X) ≡ t (at X)) → ((X : Record) → In X (recordsOf q) → w (at X) ≡ u (at X))
+    → MidOf b q mail p s w → MidOf b q mail p t u
+mid-of true q mail p s t w u h k m =
+    subst₂ (λ c d. after (byteOf q mail) (p .bursts) d ≡ wholeEffect q mail c) (own-local q s t h) (own-local q w u k) m
+mid-of false q mail p s t w u h k m =
+    subst₂ (λ c d. answerOf q (copies (p .bursts) d (p .buffer)) ≡ answerOf q c)
+    (join-local (recordsOf q) s t h) (join-local (recordsOf q) w u k) m
+
+pub mid-local : (f : Req) (p : Left) (s t w u : Place → List ℕ) → ((X : Place) → Sees f X → s X ≡ t X)
     → ((X : Place) → Sees f X → w X ≡ u X) → Mid f p s w → Mid f p t u
-mid-local (onRecord q mail) p s t w u h k m = subst₂ (λ c d. MidOf (writesOf q) q mail p c d) (h (at (recordOf q)) refl) (k (at (recordOf q)) refl) m
+mid-local (one q mail) p s t w u h k m = mid-of (writesOf q) q mail p s t w u (λ X y. h (at X) y) (λ X y. k (at X) y) m
 mid-local closeHca p s t w u h k m = tt
 mid-local nop p s t w u h k m = tt
 
@@ -159,10 +207,10 @@ abbrev pub system : Sys
 system = record {
   Rec = Place;
   Contents = List ℕ;
-  Req = Fed;
+  Req = Req;
   Ans = List ℕ;
-  Num = ℕ;
-  accepted = 0;
+  Num = Num;
+  accepted = number 0;
   Prog = Left;
   start = left [] [];
   Sees = Sees;

@@ -6,17 +6,19 @@ use borrow.Author.Needs.{needs}
 use native.Mathlib.Omega.{arith}
 use lib.ListN.{length}
 use Rattle.requests.specs.declared.Request.{Request}
+use Rattle.burst_table.specs.Sizes.{burstSize, slotRoom, roomSize}
 use Rattle.burst_table.specs.Bursts.{totalOf, offsetOf}
-use Rattle.bursts.specs.Table.{offset-room, need-small}
+use Rattle.burst_table.specs.Laws.{offset-room, need-small}
 use Rattle.whole_effects.proofs.move_bursts.Statement.{statement}
 use Rattle.whole_effects.proofs.move_bursts.Tie as tie
 
--- burst m lies in the first 256 bytes of the record
-placed : (q : Request) (m total first : ℕ) → m < total → total ≡ totalOf q → first ≡ offsetOf q m → first + 16 ≤ 256
+-- burst m lies in the bytes that the largest record has
+placed : (q : Request) (m total first : ℕ) → m < total → total ≡ totalOf q → first ≡ offsetOf q m → first + burstSize ≤ slotRoom
 placed q m total first h e p = omega (arith, offset-room q m (omega arith))
 
 abbrev Inv-loop : tie.InvT-loop
-Inv-loop store₀ request room total m₀ store m = (length store ≡ length store₀) × (512 ≤ length store₀) × (length room ≡ 2048) × (total ≡ totalOf request)
+Inv-loop store₀ request room total m₀ store m =
+    (length store ≡ length store₀) × (512 ≤ length store₀) × (length room ≡ roomSize) × (total ≡ totalOf request)
 
 abbrev μ-loop : tie.MeasureT-loop
 μ-loop store₀ request room total m₀ store m = total - m
@@ -58,8 +60,8 @@ write-at-requires : tie.Need-write-at-requires Inv-loop μ-loop
 write-at-requires c κs =
     let at = c .before .before .before .before in
     let q = at .before .before .before .before .before .before .before .args .request in
-    omega
-    (arith, placed q (at .loop .m) _ _ (c .before .before .before .loop-test .taken) (at .loop .inv .3) (c .before .before .offset .ensures), need-small q)
+    let more = c .before .before .before .loop-test .taken in
+    omega (arith, placed q (at .loop .m) _ _ more (at .loop .inv .3) (c .before .before .offset .ensures), need-small q)
 
 add-m : tie.Need-add-m Inv-loop μ-loop
 add-m c = search needs

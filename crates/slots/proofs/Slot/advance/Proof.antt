@@ -16,7 +16,8 @@ bursts-left-requires : tie.Need-bursts-left-requires
 bursts-left-requires c κs = search needs
 
 -- the next status and the bursts left, as the two calls answered them
-handed : (s : Slot) (next : Status) (n : ℕ) → next ≡ advancedStatus (s .status) → n ≡ leftStatus next → _≡_ {A = Advanced} (record { slot = slot next; left = n }) (advancedSlot s)
+handed : (s : Slot) (next : Status) (n : ℕ) → next ≡ advancedStatus (s .status) → n ≡ leftStatus next
+    → _≡_ {A = Advanced} (record { slot = slot next; left = n }) (advancedSlot s)
 handed s next n e f = rw (f, e)
 
 returns : tie.Need-returns

@@ -1,0 +1,19 @@
+-- `checks::by_edge` meets its contract.
+use borrow.Author.Needs.{needs}
+use Rattle.checks.proofs.by_edge.Statement.{statement}
+use Rattle.checks.proofs.by_edge.Tie as tie
+
+enum-told : tie.Need-enum-told
+enum-told c = search needs
+
+enum-told-2 : tie.Need-enum-told-2
+enum-told-2 c = search needs
+
+returns : tie.Need-returns
+returns c = search needs
+
+returns-2 : tie.Need-returns-2
+returns-2 c = rw (c .enum-told2 .given .1)
+
+pub by-edge-spec : {M : Type 1} → statement M
+by-edge-spec = tie.close (tie.spec enum-told enum-told-2 returns returns-2)

@@ -1,0 +1,3 @@
+-- What a request asks of its mailbox.
+pub mod Content
+pub mod Front

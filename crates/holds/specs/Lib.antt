@@ -1,0 +1,4 @@
+-- Holds.
+pub mod Holds
+pub mod Clashes
+pub mod Laws

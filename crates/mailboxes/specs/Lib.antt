@@ -1,0 +1,2 @@
+-- The mailbox bytes of document 01's requests.
+pub mod Mailboxes

@@ -1,0 +1,2 @@
+-- The numbers of records, as they are submitted.
+pub mod Numbers

@@ -1,0 +1,11 @@
+-- `request_table::nth` meets its contract.
+use borrow.Author.Needs.{needs}
+use Rattle.request_table.specs.Listed.{nth-first}
+use Rattle.request_table.proofs.nth.Statement.{statement}
+use Rattle.request_table.proofs.nth.Tie as tie
+
+returns : tie.Need-returns
+returns c = search (needs, nth-first)
+
+pub nth-spec : {M : Type 1} → statement M
+nth-spec = tie.close (tie.spec returns)
