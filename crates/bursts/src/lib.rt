@@ -1,36 +1,24 @@
-// The leaves that move one burst: a part of the store is changed by the byte rule, or copied to the
-// room.
+// The leaves that move one burst: a part of the store is changed as a request does, or copied to
+// the room.
 use burst_table::BURST;
 use requests::Request;
 ghost use mathlib.Core.Path.{_≡_};
 ghost use lib.ListN.{length};
-ghost use Prim.Native.Nat.{_+_, _≤_};
+ghost use Prim.Native.Nat.{_+_, _%_, _≤_};
 ghost use Rattle.words.specs.Parts.{part};
 ghost use Rattle.mailboxes.specs.Mailboxes.{needOf};
 ghost use Rattle.burst_table.specs.Sizes.{burstSize, slotRoom};
-ghost use Rattle.bursts.specs.Moves.{writtenPart, writeAt, copyAt};
+ghost use Rattle.bursts.specs.Moves.{writeAt, copyAt};
 
-// Changes a part of a record, which starts at offset `first` of it, as the request does.
-fn write_burst(part: &mut [u8], image: &[u8], request: Request, first: usize)
-    requires { ⌜ first + length (now part) ≤ slotRoom ⌝ }
-    requires { ⌜ needOf request ≤ length (now image) ⌝ }
-    ensures { λ _. ⌜ now (part .exit) ≡ writtenPart request (now (image .entry)) first (now (part .entry)) ⌝ }
-{
-    let mut i = 0;
-    while i < part.len() {
-        let old = part[i];
-        let b = byte_rule::new_byte(request, image, first + i, old);
-        part[i] = b;
-        i += 1;
-    }
-}
-
-// Copies a part of a record.
+// Copies a burst, through an array of its own, so that its bytes are moved together.
 fn read_burst(from: &[u8], to: &mut [u8])
-    requires { ⌜ length (now from) ≡ length (now to) ⌝ }
+    requires { ⌜ length (now from) ≡ burstSize ⌝ }
+    requires { ⌜ length (now to) ≡ burstSize ⌝ }
     ensures { λ _. ⌜ now (to .exit) ≡ now (from .entry) ⌝ }
 {
-    words::copy_to(from, to, 0);
+    let mut moved = [0u8; BURST];
+    words::copy_to(from, &mut moved, 0);
+    words::copy_to(&moved, to, 0);
 }
 
 // Changes the burst at `at` of the store, which stands at offset `first` of its record. The
@@ -46,12 +34,13 @@ pub fn write_at(
     requires { ⌜ at + burstSize ≤ length (now store) ⌝ }
     requires { ⌜ base + needOf request ≤ length (now room) ⌝ }
     requires { ⌜ first + burstSize ≤ slotRoom ⌝ }
+    requires { ⌜ first % burstSize ≡ 0 ⌝ }
     ensures { λ _. ⌜ now (store .exit)
         ≡ writeAt request (part base (needOf request) (now (room .entry))) at first (now (store .entry)) ⌝ }
 {
     let end = at + BURST;
     let stop = base + mailboxes::need(request);
-    write_burst(&mut store[at..end], &room[base..stop], request, first);
+    burst_writes::write(request, &mut store[at..end], &room[base..stop], first);
 }
 
 // Copies the burst at `at` of the store to `to` of the room.

@@ -33,7 +33,7 @@ range-or a b k n w h l t =
     either-at-most (within a b w) (eqb w k) w n (range-at-most a b n w h) (is-at-most w k n l) t
 
 -- a word that is taken ends inside the image
-taken-word : (e : Edge) (w : ℕ) → takesWord e w ≡ true → w + 4 ≤ edgeNeed e
+pub taken-word : (e : Edge) (w : ℕ) → takesWord e w ≡ true → w + 4 ≤ edgeNeed e
 taken-word ResetToInit w t = omega (arith, range-at-most 0 0xa0 0xa0 w (omega arith) t)
 taken-word InitToInit w t = omega (arith, range-at-most 4 0x4c 0xa0 w (omega arith) t)
 taken-word InitToRtr w t = omega (arith, range-or 4 0x4c 0x84 0xa0 w (omega arith) (omega arith) t)

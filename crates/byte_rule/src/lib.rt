@@ -53,7 +53,7 @@ fn takes_for_sending(w: usize) -> bool
 }
 
 // Whether an edge takes the image's word at offset w.
-fn takes_word(edge: Edge, w: usize) -> bool
+pub fn takes_word(edge: Edge, w: usize) -> bool
     ensures { λ r. ⌜ r ≡ takesWord edge w ⌝ }
 {
     match edge {
@@ -72,7 +72,7 @@ fn takes_word(edge: Edge, w: usize) -> bool
 }
 
 // Whether an edge leaves a record that is all zero.
-fn zeroes_record(edge: Edge) -> bool
+pub fn zeroes_record(edge: Edge) -> bool
     ensures { λ r. ⌜ r ≡ zeroes edge ⌝ }
 {
     match edge {
@@ -103,7 +103,7 @@ fn taken_byte(edge: Edge, image: &[u8], at: usize, old: u8) -> u8
 }
 
 // Byte `at` of a queue pair's record, which was `b`, with the state set.
-fn with_state(to: State, at: usize, b: u8) -> u8
+pub fn with_state(to: State, at: usize, b: u8) -> u8
     ensures { λ r. ⌜ r ≡ withState to at b ⌝ }
 {
     if at == 0 {

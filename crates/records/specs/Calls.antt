@@ -2,7 +2,7 @@
 use mathlib.Core.Path.{_≡_, sym, _∙_, ap}
 use mathlib.Core.Bool.{true}
 use mathlib.Core.List.{List}
-use Prim.Native.Nat.{ℕ, _+_, _≤_, _<_}
+use Prim.Native.Nat.{ℕ, _+_, _%_, _≤_, _<_}
 use native.Mathlib.Omega.{arith}
 use lib.ListN.{length, replicate}
 use Rattle.words.specs.Parts.{part, splice}
@@ -49,6 +49,10 @@ module _ (g : Logs) (store room : List ℕ) (k : ℕ) (q : Request) (m : ℕ) (m
 
   pub first-room : first + burstSize ≤ slotRoom
   first-room = omega (arith, offset-room q m (moving .more))
+
+  -- a burst starts at a number of bursts
+  pub first-aligned : first % burstSize ≡ 0
+  first-aligned = omega (arith, offset-is)
 
   module _ (base : ℕ) (base-is : base ≡ slotStart k) where
     pub front-inside : base + needOf q ≤ length room

@@ -1,6 +1,6 @@
 -- `bursts::read_at` meets its contract.
-use Rattle.bursts.specs.Leaves.{copied-lent}
 use borrow.Author.Needs.{needs}
+use Rattle.bursts.specs.Leaves.{copied-lent}
 use Rattle.bursts.proofs.read_at.Statement.{statement}
 use Rattle.bursts.proofs.read_at.Tie as tie
 

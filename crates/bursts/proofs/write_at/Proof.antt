@@ -1,6 +1,7 @@
 -- `bursts::write_at` meets its contract.
-use Rattle.bursts.specs.Leaves.{written-lent}
 use borrow.Author.Needs.{needs}
+use Rattle.bursts.specs.Leaves.{written-lent}
+use Rattle.bursts.specs.Moves.{writtenPart}
 use Rattle.bursts.proofs.write_at.Statement.{statement}
 use Rattle.bursts.proofs.write_at.Tie as tie
 
@@ -13,31 +14,32 @@ need-requires c κs = search needs
 add-stop : tie.Need-add-stop
 add-stop c = search needs
 
-sub-write-burst : tie.Need-sub-write-burst
-sub-write-burst c = search needs
+sub-write : tie.Need-sub-write
+sub-write c = search needs
 
-part-write-burst-start : tie.Need-part-write-burst-start
-part-write-burst-start c = search needs
+part-write-start : tie.Need-part-write-start
+part-write-start c = search needs
 
-part-write-burst-end : tie.Need-part-write-burst-end
-part-write-burst-end c = search needs
+part-write-end : tie.Need-part-write-end
+part-write-end c = search needs
 
-sub-write-burst-2 : tie.Need-sub-write-burst-2
-sub-write-burst-2 c = search needs
+sub-write-2 : tie.Need-sub-write-2
+sub-write-2 c = search needs
 
-part-write-burst-start-2 : tie.Need-part-write-burst-start-2
-part-write-burst-start-2 c = search needs
+part-write-start-2 : tie.Need-part-write-start-2
+part-write-start-2 c = search needs
 
-part-write-burst-end-2 : tie.Need-part-write-burst-end-2
-part-write-burst-end-2 c = search needs
+part-write-end-2 : tie.Need-part-write-end-2
+part-write-end-2 c = search needs
 
-write-burst-requires : tie.Need-write-burst-requires
-write-burst-requires c κs = search needs
+write-requires : tie.Need-write-requires
+write-requires c κs = search needs
 
 same-length : tie.Need-same-length
 same-length c = search needs
 
 returns : tie.Need-returns
+unfolding writtenPart
 returns c = search (needs, written-lent)
 
 pub write-at-spec : {M : Type 1} → statement M
@@ -47,12 +49,12 @@ write-at-spec =
     add-end
     need-requires
     add-stop
-    sub-write-burst
-    part-write-burst-start
-    part-write-burst-end
-    sub-write-burst-2
-    part-write-burst-start-2
-    part-write-burst-end-2
-    write-burst-requires
+    sub-write
+    part-write-start
+    part-write-end
+    sub-write-2
+    part-write-start-2
+    part-write-end-2
+    write-requires
     same-length
     returns)

@@ -1,5 +1,5 @@
 -- `records::write_burst` meets its contract.
-use Rattle.records.specs.Calls.{place-small, burst-inside, front-inside, first-room, write-leaves}
+use Rattle.records.specs.Calls.{place-small, burst-inside, front-inside, first-room, first-aligned, write-leaves}
 use native.Mathlib.Omega.{arith}
 use borrow.Author.Needs.{needs}
 use Rattle.records.proofs.write_burst.Statement.{statement}
@@ -20,7 +20,8 @@ slot-start-requires : tie.Need-slot-start-requires
 slot-start-requires c κs = search needs
 
 write-at-requires : tie.Need-write-at-requires
-write-at-requires c κs = (search (needs, burst-inside), (search (needs, front-inside), search (needs, first-room)))
+write-at-requires c κs =
+    (search (needs, burst-inside), (search (needs, front-inside), (search (needs, first-room), search (needs, first-aligned))))
 
 same-length : tie.Need-same-length
 same-length c = search needs
