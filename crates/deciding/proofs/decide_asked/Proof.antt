@@ -1,0 +1,44 @@
+-- `deciding::decide_asked` meets its contract.
+use Rattle.rules.specs.Engines.{decideAsked}
+use borrow.Author.Needs.{needs}
+use Rattle.deciding.proofs.decide_asked.Statement.{statement}
+use Rattle.deciding.proofs.decide_asked.Tie as tie
+
+enum-known-found : tie.Need-enum-known-found
+enum-known-found c = search needs
+
+sub-decide-request : tie.Need-sub-decide-request
+sub-decide-request c = search needs
+
+part-decide-request-start : tie.Need-part-decide-request-start
+part-decide-request-start c = search needs
+
+part-decide-request-end : tie.Need-part-decide-request-end
+part-decide-request-end c = search needs
+
+decide-request-requires : tie.Need-decide-request-requires
+decide-request-requires c κs = c .before .before .before .before .before .pre .stored _ (c .before .before .found .given .1)
+
+enum-told : tie.Need-enum-told
+enum-told c = search needs
+
+returns : tie.Need-returns
+unfolding decideAsked
+returns c room = rw (c .before .before .before .found .given .1) (c .decide-request .ensures room)
+
+returns-2 : tie.Need-returns-2
+unfolding decideAsked
+returns-2 c room = rw (c .enum-told .given .1)
+
+pub decide-asked-spec : {M : Type 1} → statement M
+decide-asked-spec =
+    tie.close
+    (tie.spec
+    enum-known-found
+    sub-decide-request
+    part-decide-request-start
+    part-decide-request-end
+    decide-request-requires
+    enum-told
+    returns
+    returns-2)
