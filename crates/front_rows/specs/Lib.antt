@@ -1,0 +1,2 @@
+-- The front of a list, replaced by one as long.
+pub mod Fronts
