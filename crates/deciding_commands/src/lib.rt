@@ -183,5 +183,5 @@ pub fn decide_command(
     if possible::is_impossible(hca, row) {
         return Decision::Refuse(Refusal::Impossible);
     }
-    decide_register(hca, row, store, mail, hcr::read(bytes))
+    decide_register(hca, row, store, mail, hcr_reader::read(bytes))
 }

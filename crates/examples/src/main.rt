@@ -98,7 +98,7 @@ fn start_of(rec: Record) -> Start {
 fn read_word(word: u32) -> ReadAnswer {
     let mut register = [0u8; 28];
     words::write_le32(&mut register, 0x18, word);
-    hcr::read(&register)
+    hcr_reader::read(&register)
 }
 
 // What an engine write gets that leaves the state `to`.

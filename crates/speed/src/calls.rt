@@ -80,7 +80,7 @@ pub fn command(
     in_modifier: u32,
 ) -> Run {
     let mut register = [0u8; 28];
-    hcr::write(&mut register, register_of(op, in_modifier));
+    hcr_writer::write(&mut register, register_of(op, in_modifier));
     let hca = run.hca;
     let mut row = run.row;
     let r = device_submit::submit_command(hca, row, store, room, &register, mail);
