@@ -41,7 +41,7 @@ fn decide_found(
     ensures { λ r. ⌜ ((room : List ℕ) → r ≡ decideFound (world hca row (now (store .entry)) room) (now (mail .entry)) found) ⌝ }
 {
     match found {
-        CommandFound::InitHca => decide_init(context::read_init(mail, store.len())),
+        CommandFound::InitHca => decide_init(store_tables::read_init(mail, store.len())),
         CommandFound::CloseHca => Decision::Close,
         CommandFound::Nop => Decision::Nothing,
         CommandFound::OnRecord(command) => deciding::decide_request(

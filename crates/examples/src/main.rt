@@ -80,18 +80,18 @@ fn init(store: usize) -> u64 {
     mailbox[0x17] = 2;
     mailbox[0x1f] = 1;
     mailbox[0x37] = 2;
-    init_number(context::read_init(&mailbox, store))
+    init_number(store_tables::read_init(&mailbox, store))
 }
 
 fn start_of(rec: Record) -> Start {
     let logs = logs();
-    if !context::fits_store(logs, STORE) {
+    if !store_tables::fits_store(logs, STORE) {
         return Start::Nowhere;
     }
-    if !context::is_record(logs, rec) {
+    if !record_kinds::is_record(logs, rec) {
         return Start::Nowhere;
     }
-    Start::At(context::record_at(logs, rec) as u64)
+    Start::At(store_tables::record_at(logs, rec) as u64)
 }
 
 // The command register with this word 18h and zeros before it, read.

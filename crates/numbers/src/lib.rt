@@ -32,7 +32,7 @@ pub enum MptFound {
 pub fn qp_number(logs: Logs, n: u32) -> QpFound
     ensures { λ r. ⌜ (r ≡ qpOf logs n) × (qpFoundNumber r ≡ numberRows logs kind.Qp n 0 3) ⌝ }
 {
-    if context::below_count(logs.qps, n) {
+    if record_kinds::below_count(logs.qps, n) {
         return QpFound::Number(QpNumber(n));
     }
     QpFound::OutOfRange
@@ -41,7 +41,7 @@ pub fn qp_number(logs: Logs, n: u32) -> QpFound
 pub fn cq_number(logs: Logs, n: u32) -> CqFound
     ensures { λ r. ⌜ (r ≡ cqOf logs n) × (cqFoundNumber r ≡ numberRows logs kind.Cq n 0 3) ⌝ }
 {
-    if context::below_count(logs.cqs, n) {
+    if record_kinds::below_count(logs.cqs, n) {
         return CqFound::Number(CqNumber(n));
     }
     CqFound::OutOfRange
@@ -50,7 +50,7 @@ pub fn cq_number(logs: Logs, n: u32) -> CqFound
 pub fn eq_number(logs: Logs, n: u32) -> EqFound
     ensures { λ r. ⌜ (r ≡ eqOf logs n) × (eqFoundNumber r ≡ numberRows logs kind.Eq n 0 3) ⌝ }
 {
-    if context::below_count(logs.eqs, n) {
+    if record_kinds::below_count(logs.eqs, n) {
         return EqFound::Number(EqNumber(n));
     }
     EqFound::OutOfRange
@@ -59,7 +59,7 @@ pub fn eq_number(logs: Logs, n: u32) -> EqFound
 pub fn mpt_number(logs: Logs, n: u32) -> MptFound
     ensures { λ r. ⌜ (r ≡ mptOf logs n) × (mptFoundNumber r ≡ numberRows logs kind.Mpt n 0 3) ⌝ }
 {
-    if context::below_count(logs.mpts, n) {
+    if record_kinds::below_count(logs.mpts, n) {
         return MptFound::Number(MptNumber(n));
     }
     MptFound::OutOfRange

@@ -51,7 +51,7 @@ fn pair_wrong(a: Slot, b: Slot) -> bool
 fn open_impossible(logs: Logs, store_len: usize, row: [Slot; 8]) -> bool
     ensures { λ r. ⌜ r ≡ openImpossible logs «store_len» row ⌝ }
 {
-    if !context::fits_store(logs, store_len) {
+    if !store_tables::fits_store(logs, store_len) {
         return true;
     }
     for i in 0..8 {

@@ -18,7 +18,7 @@ fn record_place(logs: Logs, request: Request) -> usize
     requires { ⌜ isRecord logs (recordOf request) ≡ true ⌝ }
     ensures { λ r. ⌜ r ≡ recordAt logs (recordOf request) ⌝ }
 {
-    context::record_at(logs, request_table::record_of(request))
+    store_tables::record_at(logs, request_table::record_of(request))
 }
 
 // Moves burst m of slot k's request, a write: that burst of the record is changed. The mailbox bytes
@@ -62,6 +62,6 @@ pub fn zero(logs: Logs, store: &mut [u8])
     requires { ⌜ Fits logs (memory (now store)) ⌝ }
     ensures { λ _. ⌜ memory (now (store .exit)) ≡ zeroed logs (memory (now (store .entry))) ⌝ }
 {
-    let n = context::bytes_in_use(logs);
+    let n = store_tables::bytes_in_use(logs);
     words::fill(store, 0, n, 0);
 }

@@ -87,7 +87,7 @@ pub fn is_one_of(records: Records, rec: Record) -> bool
     ensures { λ r. ⌜ r ≡ oneOf (listOf records) rec ⌝ }
 {
     let first = records.first;
-    context::same_record(first, rec)
+    record_kinds::same_record(first, rec)
 }
 
 // Whether the store has all of some records.
@@ -95,7 +95,7 @@ pub fn all_records(logs: Logs, records: Records) -> bool
     ensures { λ r. ⌜ r ≡ allRecords logs (listOf records) ⌝ }
 {
     let first = records.first;
-    context::is_record(logs, first)
+    record_kinds::is_record(logs, first)
 }
 
 fn command_writes(command: Command) -> bool

@@ -1,8 +1,8 @@
--- `context::ranges_hold` meets its contract.
+-- `store_tables::ranges_hold` meets its contract.
 use Rattle.words.specs.Choice.{cases}
 use Rattle.context.specs.Layout.{rangesHold}
-use Rattle.context.proofs.ranges_hold.Statement.{statement}
-use Rattle.context.proofs.ranges_hold.Tie as tie
+use Rattle.store_tables.proofs.ranges_hold.Statement.{statement}
+use Rattle.store_tables.proofs.ranges_hold.Tie as tie
 
 returns : tie.Need-returns
 unfolding rangesHold

@@ -1,9 +1,9 @@
--- `context::read_init` meets its contract.
+-- `store_tables::read_init` meets its contract.
 use Rattle.words.specs.Choice.{cases}
 use Rattle.context.specs.Init.{initRows, initOf, logsOf}
 use borrow.Author.Needs.{needs}
-use Rattle.context.proofs.read_init.Statement.{statement}
-use Rattle.context.proofs.read_init.Tie as tie
+use Rattle.store_tables.proofs.read_init.Statement.{statement}
+use Rattle.store_tables.proofs.read_init.Tie as tie
 
 returns : tie.Need-returns
 unfolding initRows initOf logsOf

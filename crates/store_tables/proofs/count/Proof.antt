@@ -1,12 +1,12 @@
--- `context::count` meets its contract.
+-- `store_tables::count` meets its contract.
 use native.Mathlib.Omega.{arith}
 use mathlib.Core.Path.{refl}
 use Prim.Native.Nat.{_<_, _≤_, _^_}
 use lib.Pow.{pow-mono}
 use Rattle.context.specs.Counts.{one-shifted}
 use borrow.Author.Needs.{needs}
-use Rattle.context.proofs.count.Statement.{statement}
-use Rattle.context.proofs.count.Tie as tie
+use Rattle.store_tables.proofs.count.Statement.{statement}
+use Rattle.store_tables.proofs.count.Tie as tie
 
 shl-result : tie.Need-shl-result
 shl-result c = search needs

@@ -1,10 +1,10 @@
--- `context::fits_store` meets its contract.
+-- `store_tables::fits_store` meets its contract.
 use Rattle.words.specs.Choice.{cases}
 use borrow.Author.Tests.{not-true, not-false}
 use Rattle.context.specs.Layout.{fitsStore}
 use borrow.Author.Needs.{needs}
-use Rattle.context.proofs.fits_store.Statement.{statement}
-use Rattle.context.proofs.fits_store.Tie as tie
+use Rattle.store_tables.proofs.fits_store.Statement.{statement}
+use Rattle.store_tables.proofs.fits_store.Tie as tie
 
 ranges-hold-requires : tie.Need-ranges-hold-requires
 ranges-hold-requires c κs = search needs

@@ -1,10 +1,10 @@
--- `context::bytes_in_use` meets its contract.
+-- `store_tables::bytes_in_use` meets its contract.
 use native.Mathlib.Omega.{arith}
 use Rattle.context.specs.Counts.{ranges, start-small}
 use Rattle.context.specs.declared.Kind.the-variants as kind
 use borrow.Author.Needs.{needs}
-use Rattle.context.proofs.bytes_in_use.Statement.{statement}
-use Rattle.context.proofs.bytes_in_use.Tie as tie
+use Rattle.store_tables.proofs.bytes_in_use.Statement.{statement}
+use Rattle.store_tables.proofs.bytes_in_use.Tie as tie
 
 table-start-requires : tie.Need-table-start-requires
 table-start-requires c κs = search needs

@@ -1,9 +1,9 @@
--- `context::record_at` meets its contract: `starts` says what the sum is, and that no part of it wraps.
+-- `store_tables::record_at` meets its contract: `starts` says what the sum is, and that no part of it wraps.
 use native.Mathlib.Omega.{arith}
 use Rattle.context.specs.Records.{Starts, starts}
 use borrow.Author.Needs.{needs}
-use Rattle.context.proofs.record_at.Statement.{statement}
-use Rattle.context.proofs.record_at.Tie as tie
+use Rattle.store_tables.proofs.record_at.Statement.{statement}
+use Rattle.store_tables.proofs.record_at.Tie as tie
 
 kind-of-requires : tie.Need-kind-of-requires
 kind-of-requires c κs = search needs

@@ -1,9 +1,9 @@
--- `context::table_start` meets its contract.
+-- `store_tables::table_start` meets its contract.
 use native.Mathlib.Omega.{arith}
 use Rattle.context.specs.Counts.{ranges}
 use borrow.Author.Needs.{needs}
-use Rattle.context.proofs.table_start.Statement.{statement}
-use Rattle.context.proofs.table_start.Tie as tie
+use Rattle.store_tables.proofs.table_start.Statement.{statement}
+use Rattle.store_tables.proofs.table_start.Tie as tie
 
 count-requires : tie.Need-count-requires
 count-requires c κs = omega (arith, ranges _ (c .pre) .qps)
