@@ -135,7 +135,7 @@ pub fn permission(request: Request, rec: &[u8]) -> Verdict
 fn size_of(request: Request) -> usize
     ensures { λ r. ⌜ r ≡ recordSize (recordOf request) ⌝ }
 {
-    record_kinds::record_size(request_table::record_of(request))
+    record_kinds::record_size(request_record::record_of(request))
 }
 
 // Whether the record that starts at `at` of the store permits a request, and if not, why. The record-sized

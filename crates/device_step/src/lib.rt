@@ -21,7 +21,7 @@ fn move_burst(hca: Hca, store: &mut [u8], room: &mut [u8], k: usize, request: Re
         ≡ burstMoved hca (now (store .entry)) (now (room .entry)) k request m ⌝ }
 {
     let logs = hca.logs;
-    if request_table::writes(request) {
+    if request_kinds::writes(request) {
         records::write_burst(logs, store, room, k, request, m);
         return;
     }

@@ -15,10 +15,10 @@ ghost use Rattle.holds.specs.Holds.{clashPair, clashRecords, clashSlot, 
 fn clashes(running: Request, writes: bool, rec: Record) -> bool
     ensures { λ r. ⌜ r ≡ clashPair running writes rec ⌝ }
 {
-    if !request_table::is_one_of(request_table::records_of(running), rec) {
+    if !record_lists::is_one_of(record_lists::records_of(running), rec) {
         return false;
     }
-    if request_table::writes(running) {
+    if request_kinds::writes(running) {
         return true;
     }
     writes
@@ -29,16 +29,16 @@ fn clashes_at(running: Request, writes: bool, records: Records, j: usize) -> boo
     requires { ⌜ j < length (listOf records) ⌝ }
     ensures { λ r. ⌜ r ≡ clashPair running writes (getD (listOf records) j noRecord) ⌝ }
 {
-    clashes(running, writes, request_table::nth(records, j))
+    clashes(running, writes, record_lists::nth(records, j))
 }
 
 // Whether a running request holds a record against another request.
 fn requests_clash(running: Request, request: Request) -> bool
     ensures { λ r. ⌜ r ≡ clashRecords running (writesOf request) (recordsOf request) ⌝ }
 {
-    let records = request_table::records_of(request);
-    let writes = request_table::writes(request);
-    let count = request_table::count(records);
+    let records = record_lists::records_of(request);
+    let writes = request_kinds::writes(request);
+    let count = record_lists::count(records);
     for j in 0..count {
         if clashes_at(running, writes, records, j) {
             return true;
@@ -65,7 +65,7 @@ pub fn held_from(row: [Slot; 8], start: usize, records: Records, writes: bool) -
     requires { ⌜ start ≤ 8 ⌝ }
     ensures { λ r. ⌜ r ≡ anySlot (clashSlot writes (listOf records)) (drop start row) ⌝ }
 {
-    let count = request_table::count(records);
+    let count = record_lists::count(records);
     for i in start..8 {
         let slot = row[i];
         let status = slot.status;
@@ -89,7 +89,7 @@ pub fn held(row: [Slot; 8], request: Request) -> bool
     held_from(
         row,
         0,
-        request_table::records_of(request),
-        request_table::writes(request),
+        record_lists::records_of(request),
+        request_kinds::writes(request),
     )
 }

@@ -18,7 +18,7 @@ fn record_place(logs: Logs, request: Request) -> usize
     requires { ⌜ isRecord logs (recordOf request) ≡ true ⌝ }
     ensures { λ r. ⌜ r ≡ recordAt logs (recordOf request) ⌝ }
 {
-    store_tables::record_at(logs, request_table::record_of(request))
+    store_tables::record_at(logs, request_record::record_of(request))
 }
 
 // Moves burst m of slot k's request, a write: that burst of the record is changed. The mailbox bytes

@@ -11,8 +11,8 @@ fn request_wrong(logs: Logs, status: Status) -> bool
 {
     match status {
         Status::Free => false,
-        Status::Running(_, request) => !request_table::numbers_hold(request, logs),
-        Status::Finished(_, request) => !request_table::numbers_hold(request, logs),
+        Status::Running(_, request) => !request_numbers::numbers_hold(request, logs),
+        Status::Finished(_, request) => !request_numbers::numbers_hold(request, logs),
     }
 }
 

@@ -125,7 +125,7 @@ pub fn has_command(slot: Slot) -> bool
     let status = slot.status;
     match status {
         Status::Free => false,
-        Status::Running(_, request) => request_table::is_command(request),
-        Status::Finished(_, request) => request_table::is_command(request),
+        Status::Running(_, request) => request_kinds::is_command(request),
+        Status::Finished(_, request) => request_kinds::is_command(request),
     }
 }

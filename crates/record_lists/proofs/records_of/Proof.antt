@@ -1,7 +1,7 @@
--- `request_table::records_of` meets its contract.
+-- `record_lists::records_of` meets its contract.
 use borrow.Author.Needs.{needs}
-use Rattle.request_table.proofs.records_of.Statement.{statement}
-use Rattle.request_table.proofs.records_of.Tie as tie
+use Rattle.record_lists.proofs.records_of.Statement.{statement}
+use Rattle.record_lists.proofs.records_of.Tie as tie
 
 record-of-requires : tie.Need-record-of-requires
 record-of-requires c κs = search needs

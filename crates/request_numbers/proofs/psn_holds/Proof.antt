@@ -1,7 +1,7 @@
--- `request_table::psn_holds` meets its contract.
+-- `request_numbers::psn_holds` meets its contract.
 use borrow.Author.Needs.{needs}
-use Rattle.request_table.proofs.psn_holds.Statement.{statement}
-use Rattle.request_table.proofs.psn_holds.Tie as tie
+use Rattle.request_numbers.proofs.psn_holds.Statement.{statement}
+use Rattle.request_numbers.proofs.psn_holds.Tie as tie
 
 enum-known-request : tie.Need-enum-known-request
 enum-known-request c = search needs

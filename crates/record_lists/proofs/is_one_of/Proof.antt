@@ -1,8 +1,8 @@
--- `request_table::is_one_of` meets its contract.
+-- `record_lists::is_one_of` meets its contract.
 use borrow.Author.Needs.{needs}
 use Rattle.request_table.specs.Listed.{one-told}
-use Rattle.request_table.proofs.is_one_of.Statement.{statement}
-use Rattle.request_table.proofs.is_one_of.Tie as tie
+use Rattle.record_lists.proofs.is_one_of.Statement.{statement}
+use Rattle.record_lists.proofs.is_one_of.Tie as tie
 
 same-record-requires : tie.Need-same-record-requires
 same-record-requires c κs = search needs

@@ -1,7 +1,7 @@
--- `request_table::engine_record` meets its contract.
+-- `request_record::engine_record` meets its contract.
 use borrow.Author.Needs.{needs}
-use Rattle.request_table.proofs.engine_record.Statement.{statement}
-use Rattle.request_table.proofs.engine_record.Tie as tie
+use Rattle.request_record.proofs.engine_record.Statement.{statement}
+use Rattle.request_record.proofs.engine_record.Tie as tie
 
 enum-known-engine : tie.Need-enum-known-engine
 enum-known-engine c = search needs

@@ -1,9 +1,9 @@
--- `request_table::numbers_hold` meets its contract.
+-- `request_numbers::numbers_hold` meets its contract.
 use Rattle.request_table.specs.Listed.{numbers-fail, numbers-told}
 use borrow.Author.Tests.{not-true, not-false}
 use borrow.Author.Needs.{needs}
-use Rattle.request_table.proofs.numbers_hold.Statement.{statement}
-use Rattle.request_table.proofs.numbers_hold.Tie as tie
+use Rattle.request_numbers.proofs.numbers_hold.Statement.{statement}
+use Rattle.request_numbers.proofs.numbers_hold.Tie as tie
 
 records-of-requires : tie.Need-records-of-requires
 records-of-requires c κs = search needs

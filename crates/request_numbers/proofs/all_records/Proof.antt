@@ -1,8 +1,8 @@
--- `request_table::all_records` meets its contract.
+-- `request_numbers::all_records` meets its contract.
 use borrow.Author.Needs.{needs}
 use Rattle.request_table.specs.Listed.{all-told}
-use Rattle.request_table.proofs.all_records.Statement.{statement}
-use Rattle.request_table.proofs.all_records.Tie as tie
+use Rattle.request_numbers.proofs.all_records.Statement.{statement}
+use Rattle.request_numbers.proofs.all_records.Tie as tie
 
 is-record-requires : tie.Need-is-record-requires
 is-record-requires c κs = search needs

@@ -1,7 +1,7 @@
--- `request_table::command_record` meets its contract.
+-- `request_record::command_record` meets its contract.
 use borrow.Author.Needs.{needs}
-use Rattle.request_table.proofs.command_record.Statement.{statement}
-use Rattle.request_table.proofs.command_record.Tie as tie
+use Rattle.request_record.proofs.command_record.Statement.{statement}
+use Rattle.request_record.proofs.command_record.Tie as tie
 
 enum-known-command : tie.Need-enum-known-command
 enum-known-command c = search needs

@@ -1,7 +1,7 @@
--- `request_table::owned_record` meets its contract.
+-- `request_record::owned_record` meets its contract.
 use borrow.Author.Needs.{needs}
-use Rattle.request_table.proofs.owned_record.Statement.{statement}
-use Rattle.request_table.proofs.owned_record.Tie as tie
+use Rattle.request_record.proofs.owned_record.Statement.{statement}
+use Rattle.request_record.proofs.owned_record.Tie as tie
 
 enum-known-owned : tie.Need-enum-known-owned
 enum-known-owned c = search needs

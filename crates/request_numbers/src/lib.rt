@@ -1,0 +1,40 @@
+// Whether a request's records and PSN are ones that its submission accepts.
+use context::Logs;
+use request_table::Records;
+use requests::EngineRequest;
+use requests::Request;
+ghost use mathlib.Core.Path.{_≡_};
+ghost use Rattle.request_table.specs.Records.{listOf, allRecords, psnHolds, numbersHold};
+
+// Whether the store has all of some records.
+pub fn all_records(logs: Logs, records: Records) -> bool
+    ensures { λ r. ⌜ r ≡ allRecords logs (listOf records) ⌝ }
+{
+    let first = records.first;
+    record_kinds::is_record(logs, first)
+}
+
+// Whether the PSN of an engine write fits its 24 bits; other requests have none.
+fn psn_holds(request: Request) -> bool
+    ensures { λ r. ⌜ r ≡ psnHolds request ⌝ }
+{
+    let Request::Engine(engine) = request else {
+        return true;
+    };
+    match engine {
+        EngineRequest::ReadState(_) => true,
+        EngineRequest::ReadNext(_) => true,
+        EngineRequest::ReadAll(_) => true,
+        EngineRequest::Write(_, _, _, psn) => requests::psn_fits(psn),
+    }
+}
+
+// Whether a request's records and PSN are ones that its submission accepts.
+pub fn numbers_hold(request: Request, logs: Logs) -> bool
+    ensures { λ r. ⌜ r ≡ numbersHold logs request ⌝ }
+{
+    if !all_records(logs, record_lists::records_of(request)) {
+        return false;
+    }
+    psn_holds(request)
+}
