@@ -18,10 +18,10 @@ pub struct Hca {
 fn both_commands(a: Slot, b: Slot) -> bool
     ensures { λ r. ⌜ r ≡ bothCommands a b ⌝ }
 {
-    if !slots::has_command(a) {
+    if !slot_tests::has_command(a) {
         return false;
     }
-    slots::has_command(b)
+    slot_tests::has_command(b)
 }
 
 // Whether the requests of two slots run and clash.
@@ -55,7 +55,7 @@ fn open_impossible(logs: Logs, store_len: usize, row: [Slot; 8]) -> bool
         return true;
     }
     for i in 0..8 {
-        if !slots::is_occupied(row[i]) {
+        if !slot_tests::is_occupied(row[i]) {
             continue;
         }
         if slot_checks::slot_wrong(logs, row[i]) {

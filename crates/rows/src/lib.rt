@@ -28,7 +28,7 @@ pub fn lowest_free(row: [Slot; 8]) -> SlotFound
     ensures { λ r. ⌜ r ≡ lowestFree 0 row ⌝ }
 {
     for i in 0..8 {
-        if slots::is_occupied(row[i]) {
+        if slot_tests::is_occupied(row[i]) {
             continue;
         }
         return SlotFound::At(i);
@@ -41,7 +41,7 @@ pub fn any_occupied(row: [Slot; 8]) -> bool
     ensures { λ r. ⌜ r ≡ anySlot isOccupied row ⌝ }
 {
     for k in 0..8 {
-        if slots::is_occupied(row[k]) {
+        if slot_tests::is_occupied(row[k]) {
             return true;
         }
     }
@@ -54,7 +54,7 @@ pub fn command_from(row: [Slot; 8], start: usize) -> bool
     ensures { λ r. ⌜ r ≡ anySlot hasCommand (drop start row) ⌝ }
 {
     for i in start..8 {
-        if slots::has_command(row[i]) {
+        if slot_tests::has_command(row[i]) {
             return true;
         }
     }

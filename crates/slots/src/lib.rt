@@ -3,7 +3,7 @@ use requests::Request;
 ghost use mathlib.Core.Path.{_≡_};
 ghost use Prim.Native.Nat.{_-_};
 ghost use Rattle.burst_table.specs.Bursts.{totalOf};
-ghost use Rattle.slots.specs.Slots.{accepted, freed, advancedStatus, advancedSlot, leftStatus, leftOf, isOccupied, hasCommand};
+ghost use Rattle.slots.specs.Slots.{accepted, freed, advancedStatus, advancedSlot, leftStatus, leftOf};
 
 // A slot is free, running with its request, or finished with its request; the number is that of the
 // bursts moved. The bytes of the request's mailbox and answer stay in the room.
@@ -103,29 +103,5 @@ impl Slot {
     {
         let status = self.status;
         status.bursts_left()
-    }
-}
-
-// Whether a slot has a request, running or finished.
-pub fn is_occupied(slot: Slot) -> bool
-    ensures { λ r. ⌜ r ≡ isOccupied slot ⌝ }
-{
-    let status = slot.status;
-    match status {
-        Status::Free => false,
-        Status::Running(_, _) => true,
-        Status::Finished(_, _) => true,
-    }
-}
-
-// Whether a slot has an uncollected command, running or finished.
-pub fn has_command(slot: Slot) -> bool
-    ensures { λ r. ⌜ r ≡ hasCommand slot ⌝ }
-{
-    let status = slot.status;
-    match status {
-        Status::Free => false,
-        Status::Running(_, request) => request_kinds::is_command(request),
-        Status::Finished(_, request) => request_kinds::is_command(request),
     }
 }
