@@ -34,7 +34,7 @@ fn decide_verdict(row: [Slot; 8], request: Request, verdict: Verdict) -> Decisio
     ensures { λ r. ⌜ ((h : State) (store room : List ℕ) → r ≡ decideVerdict (world h row store room) request verdict) ⌝ }
 {
     match verdict {
-        Verdict::Permitted => decide_place(request, rows::lowest_free(row)),
+        Verdict::Permitted => decide_place(request, row_scans::lowest_free(row)),
         Verdict::Denied(denial) => Decision::Refuse(Refusal::Denied(denial)),
     }
 }

@@ -90,13 +90,13 @@ fn is_close(op: Op) -> bool
 fn is_busy(row: [Slot; 8], op: Op) -> bool
     ensures { λ r. ⌜ r ≡ busy row op ⌝ }
 {
-    if rows::command_uncollected(row) {
+    if row_commands::command_uncollected(row) {
         return true;
     }
     if !is_close(op) {
         return false;
     }
-    rows::any_occupied(row)
+    row_scans::any_occupied(row)
 }
 
 // The op, whether it is served now, and what is under way.

@@ -36,7 +36,7 @@ fn refused(row: [Slot; 8], cause: Refusal) -> Collected
     Collected {
         answer: CollectAnswer::Refused(cause),
         at: 0,
-        slot: rows::slot_at(row, 0),
+        slot: row_slots::slot_at(row, 0),
     }
 }
 
@@ -84,5 +84,5 @@ pub fn collect(
     if possible::is_impossible(hca, row) {
         return refused(row, Refusal::Impossible);
     }
-    collect_slot(row, room, k, rows::slot_at(row, k), out)
+    collect_slot(row, room, k, row_slots::slot_at(row, k), out)
 }

@@ -35,7 +35,7 @@ fn refused(row: [Slot; 8], cause: Refusal) -> Stepped
     Stepped {
         answer: StepAnswer::Refused(cause),
         at: 0,
-        slot: rows::slot_at(row, 0),
+        slot: row_slots::slot_at(row, 0),
     }
 }
 
@@ -77,5 +77,5 @@ pub fn step(hca: Hca, row: [Slot; 8], store: &mut [u8], room: &mut [u8], k: usiz
     if possible::is_impossible(hca, row) {
         return refused(row, Refusal::Impossible);
     }
-    step_slot(hca, row, store, room, k, rows::slot_at(row, k))
+    step_slot(hca, row, store, room, k, row_slots::slot_at(row, k))
 }

@@ -75,7 +75,7 @@ pub fn is_impossible(hca: Hca, row: [Slot; 8]) -> bool
     ensures { λ r. ⌜ r ≡ impossible hca row ⌝ }
 {
     if !hca.open {
-        return rows::any_occupied(row);
+        return row_scans::any_occupied(row);
     }
     let logs = hca.logs;
     open_impossible(logs, hca.store_len, row)

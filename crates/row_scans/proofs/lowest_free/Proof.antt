@@ -1,13 +1,13 @@
--- `rows::lowest_free` meets its contract. The loop keeps that what is left of the row decides.
+-- `row_scans::lowest_free` meets its contract. The loop keeps that what is left of the row decides.
 use mathlib.Core.Path.{_≡_}
 use Prim.Native.Nat.{_≤_, _-_}
 use borrow.Author.Needs.{needs}
 use lib.ListN.{drop}
 use Rattle.words.specs.Choice.{told}
 use Rattle.rows.specs.Scans.{free-more, free-found, free-none}
 use Rattle.rows.specs.Rows.{lowestFree}
-use Rattle.rows.proofs.lowest_free.Statement.{statement}
-use Rattle.rows.proofs.lowest_free.Tie as tie
+use Rattle.row_scans.proofs.lowest_free.Statement.{statement}
+use Rattle.row_scans.proofs.lowest_free.Tie as tie
 
 abbrev Inv-loop : tie.InvT-loop
 Inv-loop row i₀ i = (i ≤ 8) × (lowestFree i (drop i row) ≡ lowestFree 0 row)

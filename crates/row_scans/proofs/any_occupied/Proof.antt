@@ -1,14 +1,14 @@
--- `rows::any_occupied` meets its contract. The loop keeps that what is left of the row decides.
+-- `row_scans::any_occupied` meets its contract. The loop keeps that what is left of the row decides.
 use mathlib.Core.Path.{_≡_}
 use Prim.Native.Nat.{_≤_, _-_}
 use borrow.Author.Needs.{needs}
 use lib.ListN.{drop}
 use Rattle.words.specs.Choice.{told}
 use Rattle.rows.specs.Scans.{any-more, any-found, any-none}
 use Rattle.slots.specs.Slots.{isOccupied}
 use Rattle.rows.specs.Rows.{anySlot}
-use Rattle.rows.proofs.any_occupied.Statement.{statement}
-use Rattle.rows.proofs.any_occupied.Tie as tie
+use Rattle.row_scans.proofs.any_occupied.Statement.{statement}
+use Rattle.row_scans.proofs.any_occupied.Tie as tie
 
 abbrev Inv-loop : tie.InvT-loop
 Inv-loop row k₀ k = (k ≤ 8) × (anySlot isOccupied (drop k row) ≡ anySlot isOccupied row)

@@ -1,8 +1,8 @@
--- `rows::put` meets its contract.
+-- `row_slots::put` meets its contract.
 use borrow.Author.Needs.{needs}
 use Rattle.rows.specs.Laws.{put-beyond}
-use Rattle.rows.proofs.put.Statement.{statement}
-use Rattle.rows.proofs.put.Tie as tie
+use Rattle.row_slots.proofs.put.Statement.{statement}
+use Rattle.row_slots.proofs.put.Tie as tie
 
 returns : tie.Need-returns
 returns c = search (needs, put-beyond)

@@ -1,8 +1,8 @@
--- `rows::slot_at` meets its contract.
+-- `row_slots::slot_at` meets its contract.
 use borrow.Author.Needs.{needs}
 use Rattle.rows.specs.Laws.{slot-beyond}
-use Rattle.rows.proofs.slot_at.Statement.{statement}
-use Rattle.rows.proofs.slot_at.Tie as tie
+use Rattle.row_slots.proofs.slot_at.Statement.{statement}
+use Rattle.row_slots.proofs.slot_at.Tie as tie
 
 mul-result : tie.Need-mul-result
 mul-result c = search needs

@@ -1,14 +1,14 @@
--- `rows::command_from` meets its contract. The loop keeps that what is left of the row decides.
+-- `row_commands::command_from` meets its contract. The loop keeps that what is left of the row decides.
 use mathlib.Core.Path.{_≡_}
 use Prim.Native.Nat.{_≤_, _-_}
 use borrow.Author.Needs.{needs}
 use lib.ListN.{drop}
 use Rattle.words.specs.Choice.{told}
 use Rattle.rows.specs.Scans.{any-more, any-found, any-none}
 use Rattle.slots.specs.Slots.{hasCommand}
 use Rattle.rows.specs.Rows.{anySlot}
-use Rattle.rows.proofs.command_from.Statement.{statement}
-use Rattle.rows.proofs.command_from.Tie as tie
+use Rattle.row_commands.proofs.command_from.Statement.{statement}
+use Rattle.row_commands.proofs.command_from.Tie as tie
 
 abbrev Inv-loop : tie.InvT-loop
 Inv-loop start row i₀ i = (start ≤ i) × (i ≤ 8) × (anySlot hasCommand (drop i row) ≡ anySlot hasCommand (drop start row))

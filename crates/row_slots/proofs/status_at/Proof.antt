@@ -1,8 +1,8 @@
--- `rows::status_at` meets its contract.
+-- `row_slots::status_at` meets its contract.
 use borrow.Author.Needs.{needs}
 use Rattle.rows.specs.Laws.{status-beyond}
-use Rattle.rows.proofs.status_at.Statement.{statement}
-use Rattle.rows.proofs.status_at.Tie as tie
+use Rattle.row_slots.proofs.status_at.Statement.{statement}
+use Rattle.row_slots.proofs.status_at.Tie as tie
 
 returns : tie.Need-returns
 returns c = search (needs, status-beyond)
