@@ -57,7 +57,7 @@ pub fn decide_request(
     if !contents::content_holds(request, mail) {
         return Decision::Refuse(Refusal::BadContent);
     }
-    if holds::held(row, request) {
+    if hold_scans::held(row, request) {
         return Decision::Refuse(Refusal::Held);
     }
     let logs = hca.logs;

@@ -12,7 +12,7 @@ use Rattle.request_table.specs.Records.{recordsOf, writesOf, oneOf}
 use Rattle.request_table.specs.Listed.{In, share, share-symmetric, in-both}
 use Rattle.slots.specs.Slots.{Held, slot}
 use Rattle.slots.specs.declared.Slot.{Slot}
-use Rattle.slots.specs.declared.Status.the-variants.{Running}
+use Rattle.slots.specs.declared.Status.the-variants.{Running, Finished}
 use Rattle.rows.specs.Rows.{anySlot}
 use Rattle.rows.specs.Every.{at, None, none-each}
 use Rattle.holds.specs.Holds.{clashPair, clashRecords, clashStatus, clashSlot, heldAgainst}
@@ -43,6 +43,11 @@ clash-symmetric q r =
 pub held-symmetric : (q r : Held) (m n : ℕ) → heldAgainst (slot (Running m q) ∷ []) r ≡ heldAgainst (slot (Running n r) ∷ []) q
 unfolding heldAgainst anySlot
 held-symmetric q r m n = ap (λ (b : Bool). either b false) (clash-symmetric q r)
+
+-- the last burst ends a hold, before the collection: a finished request holds nothing against another
+pub held-finished : (q : Held) (r : Request) (m : ℕ) → heldAgainst (slot (Finished m q) ∷ []) r ≡ false
+unfolding heldAgainst anySlot
+held-finished q r m = refl
 
 -- no record is held against a request: no slot holds one
 pub held-each : (row : List Slot) (q : Request) → heldAgainst row q ≡ false → None (clashSlot (writesOf q) (recordsOf q)) row

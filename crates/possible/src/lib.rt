@@ -31,7 +31,7 @@ fn slots_clash(a: Slot, b: Slot) -> bool
     let status = a.status;
     match status {
         Status::Free => false,
-        Status::Running(_, request) => holds::slot_holds(b, request),
+        Status::Running(_, request) => slot_clashes::slot_holds(b, request),
         Status::Finished(_, _) => false,
     }
 }

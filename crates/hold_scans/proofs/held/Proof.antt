@@ -1,8 +1,8 @@
--- `holds::held` meets its contract.
+-- `hold_scans::held` meets its contract.
 use borrow.Author.Needs.{needs}
 use Rattle.holds.specs.Clashes.{held-told}
-use Rattle.holds.proofs.held.Statement.{statement}
-use Rattle.holds.proofs.held.Tie as tie
+use Rattle.hold_scans.proofs.held.Statement.{statement}
+use Rattle.hold_scans.proofs.held.Tie as tie
 
 records-of-requires : tie.Need-records-of-requires
 records-of-requires c κs = search needs

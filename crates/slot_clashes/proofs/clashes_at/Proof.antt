@@ -1,9 +1,9 @@
--- `holds::clashes_at` meets its contract.
+-- `slot_clashes::clashes_at` meets its contract.
 use mathlib.Core.Path.{_∙_, ap}
 use borrow.Author.Needs.{needs}
 use Rattle.holds.specs.Holds.{clashPair}
-use Rattle.holds.proofs.clashes_at.Statement.{statement}
-use Rattle.holds.proofs.clashes_at.Tie as tie
+use Rattle.slot_clashes.proofs.clashes_at.Statement.{statement}
+use Rattle.slot_clashes.proofs.clashes_at.Tie as tie
 
 nth-requires : tie.Need-nth-requires
 nth-requires c κs = search needs

@@ -1,12 +1,12 @@
--- `holds::clashes` meets its contract.
+-- `slot_clashes::clashes` meets its contract.
 use mathlib.Core.Path.{ap, sym}
 use mathlib.Core.Bool.{Bool}
 use borrow.Author.Tests.{not-true, not-false}
 use borrow.Author.Needs.{needs}
 use Rattle.words.specs.Choice.{either}
 use Rattle.holds.specs.Clashes.{pair-apart, pair-met}
-use Rattle.holds.proofs.clashes.Statement.{statement}
-use Rattle.holds.proofs.clashes.Tie as tie
+use Rattle.slot_clashes.proofs.clashes.Statement.{statement}
+use Rattle.slot_clashes.proofs.clashes.Tie as tie
 
 records-of-requires : tie.Need-records-of-requires
 records-of-requires c κs = search needs

@@ -1,4 +1,4 @@
--- `holds::held_from` meets its contract. Both loops keep that what is left decides: of the row the outer one, of the
+-- `hold_scans::held_from` meets its contract. Both loops keep that what is left decides: of the row the outer one, of the
 -- request's records the inner one.
 use types.Run.{OneOf}
 use denote.Enum.Declared.{tagOf, declared}
@@ -15,14 +15,14 @@ use Rattle.context.specs.declared.Record.{Record}
 use Rattle.slots.specs.declared.Status.the-variants.{Free, Running, Finished}
 use Rattle.slots.specs.declared.Status.{Status}
 use Rattle.request_table.specs.Records.{listOf}
 use Rattle.holds.specs.Clashes.{records-more, records-found, records-none, below-count, running-is}
 use Rattle.rows.specs.Scans.{any-more, any-found, any-none}
 use Rattle.holds.specs.Holds.{clashRecords, clashStatus, clashSlot}
 use Rattle.slots.specs.Slots.{slot}
 use Rattle.rows.specs.Rows.{anySlot}
 use Rattle.slots.proofs.Status as Status'
-use Rattle.holds.proofs.held_from.Statement.{statement}
-use Rattle.holds.proofs.held_from.Tie as tie
+use Rattle.hold_scans.proofs.held_from.Statement.{statement}
+use Rattle.hold_scans.proofs.held_from.Tie as tie
 
 -- a status whose tag is not a running one's
 not-running : (s : Status) (w : Bool) (Xs : List Record)

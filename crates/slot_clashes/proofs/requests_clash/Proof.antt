@@ -1,13 +1,13 @@
--- `holds::requests_clash` meets its contract. The loop keeps that what is left of the records decides.
+-- `slot_clashes::requests_clash` meets its contract. The loop keeps that what is left of the records decides.
 use mathlib.Core.Path.{_≡_, sym, _∙_}
 use Prim.Native.Nat.{_≤_, _-_}
 use borrow.Author.Needs.{needs}
 use lib.ListN.{drop}
 use Rattle.request_table.specs.Records.{listOf}
 use Rattle.holds.specs.Holds.{clashRecords}
 use Rattle.holds.specs.Clashes.{records-more, records-found, records-none, below-count, clash-told}
-use Rattle.holds.proofs.requests_clash.Statement.{statement}
-use Rattle.holds.proofs.requests_clash.Tie as tie
+use Rattle.slot_clashes.proofs.requests_clash.Statement.{statement}
+use Rattle.slot_clashes.proofs.requests_clash.Tie as tie
 
 abbrev Inv-loop : tie.InvT-loop
 Inv-loop running records writes count j₀ j =

@@ -1,7 +1,7 @@
--- `holds::holds` meets its contract.
+-- `slot_clashes::slot_holds` meets its contract.
 use borrow.Author.Needs.{needs}
-use Rattle.holds.proofs.slot_holds.Statement.{statement}
-use Rattle.holds.proofs.slot_holds.Tie as tie
+use Rattle.slot_clashes.proofs.slot_holds.Statement.{statement}
+use Rattle.slot_clashes.proofs.slot_holds.Tie as tie
 
 enum-told : tie.Need-enum-told
 enum-told c = search needs
