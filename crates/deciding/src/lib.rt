@@ -127,7 +127,7 @@ pub fn decide_engine(
     if lengths::lengths_wrong(hca, store.len(), room.len()) {
         return Decision::Refuse(Refusal::BadLength);
     }
-    if possible::is_impossible(hca, row) {
+    if state_checks::is_impossible(hca, row) {
         return Decision::Refuse(Refusal::Impossible);
     }
     decide_number(

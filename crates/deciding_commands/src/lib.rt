@@ -180,7 +180,7 @@ pub fn decide_command(
     if bytes.len() < 28 {
         return Decision::Refuse(Refusal::BadLength);
     }
-    if possible::is_impossible(hca, row) {
+    if state_checks::is_impossible(hca, row) {
         return Decision::Refuse(Refusal::Impossible);
     }
     decide_register(hca, row, store, mail, hcr_reader::read(bytes))

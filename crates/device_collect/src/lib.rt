@@ -81,7 +81,7 @@ pub fn collect(
     if lengths::lengths_wrong(hca, store.len(), room.len()) {
         return refused(row, Refusal::BadLength);
     }
-    if possible::is_impossible(hca, row) {
+    if state_checks::is_impossible(hca, row) {
         return refused(row, Refusal::Impossible);
     }
     collect_slot(row, room, k, row_slots::slot_at(row, k), out)

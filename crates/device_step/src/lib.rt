@@ -74,7 +74,7 @@ pub fn step(hca: Hca, row: [Slot; 8], store: &mut [u8], room: &mut [u8], k: usiz
     if lengths::lengths_wrong(hca, store.len(), room.len()) {
         return refused(row, Refusal::BadLength);
     }
-    if possible::is_impossible(hca, row) {
+    if state_checks::is_impossible(hca, row) {
         return refused(row, Refusal::Impossible);
     }
     step_slot(hca, row, store, room, k, row_slots::slot_at(row, k))

@@ -1,7 +1,7 @@
--- `possible::slots_clash` meets its contract.
+-- `slot_pairs::slots_clash` meets its contract.
 use borrow.Author.Needs.{needs}
-use Rattle.possible.proofs.slots_clash.Statement.{statement}
-use Rattle.possible.proofs.slots_clash.Tie as tie
+use Rattle.slot_pairs.proofs.slots_clash.Statement.{statement}
+use Rattle.slot_pairs.proofs.slots_clash.Tie as tie
 
 enum-told : tie.Need-enum-told
 enum-told c = search needs

@@ -1,8 +1,8 @@
--- `possible::pair_wrong` meets its contract.
+-- `slot_pairs::pair_wrong` meets its contract.
 use borrow.Author.Needs.{needs}
 use Rattle.words.specs.Choice.{cases}
-use Rattle.possible.proofs.pair_wrong.Statement.{statement}
-use Rattle.possible.proofs.pair_wrong.Tie as tie
+use Rattle.slot_pairs.proofs.pair_wrong.Statement.{statement}
+use Rattle.slot_pairs.proofs.pair_wrong.Tie as tie
 
 both-commands-requires : tie.Need-both-commands-requires
 both-commands-requires c κs = search needs

@@ -1,10 +1,10 @@
--- `possible::is_impossible` meets its contract.
+-- `state_checks::is_impossible` meets its contract.
 use borrow.Author.Tests.{not-true, not-false}
 use borrow.Author.Needs.{needs}
 use Rattle.words.specs.Choice.{cases}
 use Rattle.possible.specs.Possible.{impossible}
-use Rattle.possible.proofs.is_impossible.Statement.{statement}
-use Rattle.possible.proofs.is_impossible.Tie as tie
+use Rattle.state_checks.proofs.is_impossible.Statement.{statement}
+use Rattle.state_checks.proofs.is_impossible.Tie as tie
 
 any-occupied-requires : tie.Need-any-occupied-requires
 any-occupied-requires c κs = search needs

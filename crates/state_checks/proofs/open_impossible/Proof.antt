@@ -1,4 +1,4 @@
--- `possible::open_impossible` meets its contract. The outer loop keeps that the slots left decide, the inner one that the slots
+-- `state_checks::open_impossible` meets its contract. The outer loop keeps that the slots left decide, the inner one that the slots
 -- left behind one slot decide of that slot.
 use mathlib.Core.Bool.{true, false}
 use mathlib.Core.Path.{_≡_, sym, _∙_}
@@ -10,10 +10,10 @@ use Rattle.words.specs.Choice.{told}
 use Rattle.rows.specs.Every.{at}
 use Rattle.rows.specs.Rows.{anySlot, anyRest}
 use Rattle.rows.specs.Scans.{any-more, any-found, any-none, rest-more, rest-found, rest-none}
 use Rattle.possible.specs.Possible.{pairWrong, wrongWith}
 use Rattle.possible.specs.Turns.{wrong-not, wrong-slot, wrong-pair, wrong-free, past-told, nest-told}
-use Rattle.possible.proofs.open_impossible.Statement.{statement}
-use Rattle.possible.proofs.open_impossible.Tie as tie
+use Rattle.state_checks.proofs.open_impossible.Statement.{statement}
+use Rattle.state_checks.proofs.open_impossible.Tie as tie
 
 abbrev Inv-loop2 : tie.InvT-loop2
 Inv-loop2 logs store row i next j₀ j =

@@ -1,9 +1,9 @@
--- `possible::both_commands` meets its contract.
+-- `slot_pairs::both_commands` meets its contract.
 use borrow.Author.Tests.{not-true, not-false}
 use borrow.Author.Needs.{needs}
 use Rattle.words.specs.Choice.{cases}
-use Rattle.possible.proofs.both_commands.Statement.{statement}
-use Rattle.possible.proofs.both_commands.Tie as tie
+use Rattle.slot_pairs.proofs.both_commands.Statement.{statement}
+use Rattle.slot_pairs.proofs.both_commands.Tie as tie
 
 has-command-requires : tie.Need-has-command-requires
 has-command-requires c κs = search needs
