@@ -9,6 +9,9 @@ use context::Record;
 use edges::EdgeVerdict;
 use edges::Move;
 use edges::State;
+use example_text::check_number;
+use example_text::print_end;
+use example_text::print_expected;
 use hcr::ReadAnswer;
 ghost use mathlib.Core.Path.{_≡_};
 ghost use Rattle.context.specs.Init.{initFoundNumber};
@@ -106,44 +109,11 @@ fn engine_write(from: u8, service: u8, to: State) -> u64 {
     verdict_number(edges::judge(Move::Engine(to), from, service))
 }
 
-fn print_expected() {
-    io::write_all(1, b", expected ");
-}
-
-fn print_end(same: bool) {
-    if same {
-        io::write_all(1, b": ok\n");
-        return;
-    }
-    io::write_all(1, b": WRONG\n");
-}
-
-// A number returned, as document 01 writes it: `accepted` for 0, a digit, or 0x and hex digits.
-fn print_number(number: u64) {
-    if number == 0 {
-        io::write_all(1, b"accepted");
-        return;
-    }
-    if 9 < number {
-        io::write_all(1, b"0x");
-    }
-    io::print_hex(1, number, 1);
-}
-
 fn print_fields(op: u16, op_modifier: u8) {
     io::write_all(1, b"op 0x");
     io::print_hex(1, op as u64, 1);
     io::write_all(1, b", op_modifier ");
     io::print_decimal(1, op_modifier as u64);
-}
-
-fn check_number(label: &[u8], found: u64, given: u64) {
-    io::write_all(1, label);
-    io::write_all(1, b": ");
-    print_number(found);
-    print_expected();
-    print_number(given);
-    print_end(found == given);
 }
 
 fn check_start(label: &[u8], found: Start, given: u64) {

@@ -1,0 +1,162 @@
+// Each edge from each state: for every code that a record's word 00h can have as its state, 0 to 15,
+// and each type, the command edges and the engine writes that are permitted, one line for each.
+use commands::Op;
+use commands::OpFound;
+use edges::Edge;
+use edges::EdgeVerdict;
+use edges::Move;
+use edges::State;
+
+// Codes of service types.
+const RC: u8 = 0;
+
+const UC: u8 = 1;
+
+const UD: u8 = 3;
+
+enum EdgeFound {
+    Edge(Edge),
+    None,
+}
+
+fn edge_of(op: u16) -> EdgeFound {
+    let OpFound::Served(served) = commands::read_op(op) else {
+        return EdgeFound::None;
+    };
+    let Op::ModifyQp(edge) = served else {
+        return EdgeFound::None;
+    };
+    EdgeFound::Edge(edge)
+}
+
+fn is_permitted(asked: Move, code: u8, service: u8) -> bool {
+    match edges::judge(asked, code, service) {
+        EdgeVerdict::Permitted => true,
+        EdgeVerdict::NotPermitted => false,
+    }
+}
+
+fn text(words: &[u8]) {
+    io::write_all(1, words);
+}
+
+// The name of the state with this code; a code above 6 has none.
+fn print_name(code: u8) {
+    match code {
+        0 => text(b"RESET"),
+        1 => text(b"INIT"),
+        2 => text(b"RTR"),
+        3 => text(b"RTS"),
+        4 => text(b"SQE"),
+        5 => text(b"SQD"),
+        6 => text(b"ERR"),
+        _ => {}
+    }
+}
+
+// The heading before the first of a list, a comma before each later one.
+fn print_before(any: bool, heading: &[u8]) {
+    if any {
+        text(b", ");
+        return;
+    }
+    text(heading);
+}
+
+fn print_if_none(any: bool, none: &[u8]) {
+    if any {
+        return;
+    }
+    text(none);
+}
+
+// Prints a command's edge if it is permitted; answers whether any is printed by now. An op that is
+// no edge would show in the output.
+fn print_edge(any: bool, op: u16, code: u8, service: u8) -> bool {
+    let EdgeFound::Edge(edge) = edge_of(op) else {
+        text(b"WRONG ");
+        return any;
+    };
+    if !is_permitted(Move::Command(edge), code, service) {
+        return any;
+    }
+    print_before(any, b"commands ");
+    text(b"0x");
+    io::print_hex(1, op as u64, 1);
+    text(b" to ");
+    print_name(edges::state_code(edges::target(edge)));
+    true
+}
+
+fn print_edges(ops: &[u16], code: u8, service: u8) {
+    let mut any = false;
+    let mut i = 0;
+    while i < ops.len() {
+        any = print_edge(any, ops[i], code, service);
+        i += 1;
+    }
+    print_if_none(any, b"no command");
+}
+
+// Prints the state that an engine write leaves if the write is permitted.
+fn print_write(any: bool, to: State, code: u8, service: u8) -> bool {
+    if !is_permitted(Move::Engine(to), code, service) {
+        return any;
+    }
+    print_before(any, b"engine writes ");
+    print_name(edges::state_code(to));
+    true
+}
+
+fn print_writes(code: u8, service: u8) {
+    let mut any = print_write(false, State::Reset, code, service);
+    any = print_write(any, State::Init, code, service);
+    any = print_write(any, State::Rtr, code, service);
+    any = print_write(any, State::Rts, code, service);
+    any = print_write(any, State::Sqe, code, service);
+    any = print_write(any, State::Sqd, code, service);
+    any = print_write(any, State::Err, code, service);
+    print_if_none(any, b"no engine write");
+}
+
+fn print_code(code: u8) {
+    io::print_decimal(1, code as u64);
+    if code <= 6 {
+        text(b" ");
+        print_name(code);
+    }
+}
+
+// The ops in the order of document 01's table of edges.
+fn print_line(code: u8, service: u8, name: &[u8]) {
+    print_code(code);
+    text(name);
+    print_edges(
+        &[
+            0x19,
+            0x2d,
+            0x1a,
+            0x1b,
+            0x1c,
+            0x1d,
+            0x1f,
+            0x38,
+            0x20,
+            0x1e,
+            0x21,
+        ],
+        code,
+        service,
+    );
+    text(b"; ");
+    print_writes(code, service);
+    text(b"\n");
+}
+
+fn main() {
+    for code in 0..16u8 {
+        print_line(code, RC, b", RC: ");
+        print_line(code, UC, b", UC: ");
+        print_line(code, UD, b", UD: ");
+    }
+}
