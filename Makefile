@@ -1,10 +1,14 @@
-# `make demo` runs the model's main job on what there is; `make test` runs all tests, the same as the gate; `make speed` says what a
-# call of an operation costs.
-.PHONY: demo test speed kit
+# `make demo` shows the model at work on a sample script, without proving anything; `make replay` proves and builds the program that ran
+# it; `make test` runs all tests, the same as the gate; `make speed` says what a call of an operation costs.
+.PHONY: demo replay test speed kit
+SHELL := bash
 
 demo: kit
-	@rt check examples
-	@target/bin/examples
+	@tools/demo
+
+replay: kit
+	@set -o pipefail; rt check replay | grep --line-buffered '^rt: '
+	@echo 'target/bin/replay is proved and built. On a script of your own: target/bin/replay < my.script (README.md has the format)'
 
 test: kit
 	@bash .ci/run

@@ -1,0 +1,2 @@
+-- The causes of refusals.
+pub mod Causes

@@ -1,0 +1,3 @@
+-- Adler-32.
+pub mod Adler
+pub mod Turns

@@ -1,0 +1,45 @@
+-- `request_codes::engine_number` meets its contract.
+use borrow.Author.Needs.{needs}
+use Rattle.request_codes.proofs.engine_number.Statement.{statement}
+use Rattle.request_codes.proofs.engine_number.Tie as tie
+
+enum-told : tie.Need-enum-told
+enum-told c = search needs
+
+enum-told-2 : tie.Need-enum-told-2
+enum-told-2 c = search needs
+
+enum-told-3 : tie.Need-enum-told-3
+enum-told-3 c = search needs
+
+enum-known-engine : tie.Need-enum-known-engine
+enum-known-engine c = search needs
+
+write-number-requires : tie.Need-write-number-requires
+write-number-requires c κs = search needs
+
+returns : tie.Need-returns
+returns c = search needs
+
+returns-2 : tie.Need-returns-2
+returns-2 c = search needs
+
+returns-3 : tie.Need-returns-3
+returns-3 c = search needs
+
+returns-4 : tie.Need-returns-4
+returns-4 c = rw (c .before .before .engine .given .1) (c .write-number .ensures)
+
+pub engine-number-spec : {M : Type 1} → statement M
+engine-number-spec =
+    tie.close
+    (tie.spec
+    enum-told
+    enum-told-2
+    enum-told-3
+    enum-known-engine
+    write-number-requires
+    returns
+    returns-2
+    returns-3
+    returns-4)

@@ -1,0 +1,2 @@
+-- The numbers of a request.
+pub mod Numbers

@@ -1,0 +1,3 @@
+-- Bytes in a script.
+pub mod Bytes
+pub mod Turns

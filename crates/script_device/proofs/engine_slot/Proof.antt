@@ -1,0 +1,70 @@
+-- `script_device::engine_slot` meets its contract.
+use borrow.Author.Needs.{needs}
+use borrow.Author.Tests.{not-true, not-false}
+use Rattle.words.specs.Choice.{cases}
+use Rattle.script_device.specs.Slots.{engineSlot}
+use Rattle.script_device.specs.Laws.{request-read}
+use borrow.Author.Needs.{needs}
+use Rattle.script_device.proofs.engine_slot.Statement.{statement}
+use Rattle.script_device.proofs.engine_slot.Tie as tie
+
+returns : tie.Need-returns
+unfolding engineSlot
+returns c = search (cases, not-true, not-false) depth 12
+
+element-copy-out-state : tie.Need-element-copy-out-state
+element-copy-out-state c = search needs
+
+element-copy-out-moved : tie.Need-element-copy-out-moved
+element-copy-out-moved c = search needs
+
+returns-2 : tie.Need-returns-2
+unfolding engineSlot
+returns-2 c = search (cases, not-true, not-false) depth 12
+
+returns-3 : tie.Need-returns-3
+unfolding engineSlot
+returns-3 c = search (cases, not-true, not-false) depth 12
+
+element-copy-out-read-engine : tie.Need-element-copy-out-read-engine
+element-copy-out-read-engine c = search needs
+
+element-copy-out-read-engine-2 : tie.Need-element-copy-out-read-engine-2
+element-copy-out-read-engine-2 c = search needs
+
+element-copy-out-read-engine-3 : tie.Need-element-copy-out-read-engine-3
+element-copy-out-read-engine-3 c = search needs
+
+cast-read-engine : tie.Need-cast-read-engine
+cast-read-engine c = search needs
+
+read-engine-requires : tie.Need-read-engine-requires
+read-engine-requires c κs = search needs
+
+cast-occupied : tie.Need-cast-occupied
+cast-occupied c = search needs
+
+occupied-requires : tie.Need-occupied-requires
+occupied-requires c κs = search needs
+
+returns-4 : tie.Need-returns-4
+unfolding engineSlot
+returns-4 c = search (cases, not-true, not-false, request-read) depth 14
+
+pub engine-slot-spec : {M : Type 1} → statement M
+engine-slot-spec =
+    tie.close
+    (tie.spec
+    returns
+    element-copy-out-state
+    element-copy-out-moved
+    returns-2
+    returns-3
+    element-copy-out-read-engine
+    element-copy-out-read-engine-2
+    element-copy-out-read-engine-3
+    cast-read-engine
+    read-engine-requires
+    cast-occupied
+    occupied-requires
+    returns-4)

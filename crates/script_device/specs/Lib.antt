@@ -1,0 +1,3 @@
+-- The slot that a line hands in.
+pub mod Slots
+pub mod Laws

@@ -1,0 +1,3 @@
+-- The numbers of a line.
+pub mod Lines
+pub mod Turns

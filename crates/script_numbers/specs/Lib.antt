@@ -1,0 +1,3 @@
+-- Numbers in a script.
+pub mod Numbers
+pub mod Turns

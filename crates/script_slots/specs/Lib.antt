@@ -1,0 +1,2 @@
+-- Requests handed in with a slot.
+pub mod Requests
