@@ -4,3 +4,4 @@ pub mod Bytes
 pub mod Needed
 pub mod States
 pub mod Front
+pub mod Ends
