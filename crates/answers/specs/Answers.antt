@@ -1,6 +1,6 @@
 -- The answer of each request, from the bytes of its record that its bursts copied (01, Bursts, slots and holds).
 use mathlib.Core.List.{List, [], _∷_}
-use Prim.Native.Nat.{ℕ}
+use Prim.Native.Nat.{ℕ, _+_}
 use Rattle.words.specs.Parts.{part}
 use Rattle.context.specs.Layout.{sizeOf}
 use Rattle.context.specs.declared.Kind.the-variants as kind
@@ -24,6 +24,13 @@ nextAnswer p = stateOf p ∷ part 0x6d 3 p
 unfoldable pub wholeAnswer : List ℕ → List ℕ
 wholeAnswer p = part 0 (sizeOf kind.Qp) p
 
+-- Request 7 answers its three records joined: the queue pair at 0, the completion queue at 256, the event queue at 320 (02, wish 2).
+abbrev pub threeSize : ℕ
+threeSize = sizeOf kind.Qp + (sizeOf kind.Cq + sizeOf kind.Eq)
+
+unfoldable pub joinedAnswer : List ℕ → List ℕ
+joinedAnswer p = part 0 threeSize p
+
 -- Every other request is a write, and its answer is empty.
 abbrev pub commandAnswer : Command → List ℕ → List ℕ
 commandAnswer (command.Sw2Hw o) p = []
@@ -32,12 +39,13 @@ commandAnswer (command.ResizeCq n) p = []
 commandAnswer (command.QueryQp n) p = wholeAnswer p
 commandAnswer (command.ModifyQp e n) p = []
 
--- Engine reads answer from the record, and engine writes are writes too.
+-- Engine reads answer from their records, and engine writes are writes too.
 abbrev pub engineAnswer : EngineRequest → List ℕ → List ℕ
 engineAnswer (engine.ReadState n) p = stateAnswer p
 engineAnswer (engine.ReadNext n) p = nextAnswer p
 engineAnswer (engine.ReadAll n) p = wholeAnswer p
 engineAnswer (engine.Write w s n psn) p = []
+engineAnswer (engine.ReadJoined n c e) p = joinedAnswer p
 
 -- The answer of every request.
 abbrev pub answerOf : Request → List ℕ → List ℕ
@@ -57,6 +65,7 @@ engineAnswerSize (engine.ReadState n) = 1
 engineAnswerSize (engine.ReadNext n) = 4
 engineAnswerSize (engine.ReadAll n) = sizeOf kind.Qp
 engineAnswerSize (engine.Write w s n psn) = 0
+engineAnswerSize (engine.ReadJoined n c e) = threeSize
 
 abbrev pub answerSize : Request → ℕ
 answerSize (request.Command c) = commandAnswerSize c

@@ -1,5 +1,5 @@
 -- The laws of the answers: how long they are, which bits request 2 answers, and that an answer is made of the bytes that the request's
--- bursts copied. The bytes are a slot's part of the room, in which a queue pair's record has room.
+-- bursts copied. The bytes are a slot's part of the room, or the request's records one behind the other.
 use mathlib.Core.Path.{_≡_, refl, sym, _∙_, ap}
 use mathlib.Core.List.{List, [], _∷_}
 use mathlib.Core.Logic.{inl, inr}
@@ -18,13 +18,16 @@ use Rattle.requests.specs.declared.EngineRequest.{EngineRequest}
 use Rattle.requests.specs.declared.EngineRequest.the-variants as engine
 use Rattle.requests.specs.declared.Request.{Request}
 use Rattle.requests.specs.declared.Request.the-variants as request
-use Rattle.burst_table.specs.Bursts.{psnPlace, burstsFrom, commandBursts, engineBursts, burstsOf}
+use Rattle.request_table.specs.Records.{recordsOf}
+use Rattle.burst_table.specs.Sizes.{burstSize}
+use Rattle.burst_table.specs.Bursts.{psnPlace, burstsFrom, joinedSize, commandBursts, engineBursts, burstsOf}
 use Rattle.checks.specs.Fields.{stateOf}
 use Rattle.burst_table.specs.Touched.{Touched, all-touched}
-use Rattle.answers.specs.Answers.{stateAnswer, nextAnswer, wholeAnswer, commandAnswer, engineAnswer, answerOf}
-use Rattle.answers.specs.Answers.{commandAnswerSize, engineAnswerSize, answerSize}
+use Rattle.answers.specs.Answers.{stateAnswer, nextAnswer, wholeAnswer, joinedAnswer, commandAnswer, engineAnswer, answerOf}
+use Rattle.answers.specs.Answers.{threeSize, commandAnswerSize, engineAnswerSize, answerSize}
 
-length-command : (c : Command) (p : List ℕ) → sizeOf kind.Qp ≤ length p → length (commandAnswer c p) ≡ commandAnswerSize c
+length-command : (c : Command) (p : List ℕ) → joinedSize (recordsOf (request.Command c)) ≤ length p
+    → length (commandAnswer c p) ≡ commandAnswerSize c
 unfolding wholeAnswer
 length-command (command.Sw2Hw o) p h = refl
 length-command (command.Hw2Sw o) p h = refl
@@ -32,15 +35,17 @@ length-command (command.ResizeCq n) p h = refl
 length-command (command.QueryQp n) p h = length-part 0 (sizeOf kind.Qp) p h
 length-command (command.ModifyQp e n) p h = refl
 
-length-engine : (e : EngineRequest) (p : List ℕ) → sizeOf kind.Qp ≤ length p → length (engineAnswer e p) ≡ engineAnswerSize e
-unfolding stateAnswer nextAnswer wholeAnswer
+length-engine : (e : EngineRequest) (p : List ℕ) → joinedSize (recordsOf (request.Engine e)) ≤ length p
+    → length (engineAnswer e p) ≡ engineAnswerSize e
+unfolding stateAnswer nextAnswer wholeAnswer joinedAnswer
 length-engine (engine.ReadState n) p h = refl
 length-engine (engine.ReadNext n) p h = ap suc (length-part 0x6d 3 p (omega arith))
 length-engine (engine.ReadAll n) p h = length-part 0 (sizeOf kind.Qp) p h
 length-engine (engine.Write w s n psn) p h = refl
+length-engine (engine.ReadJoined n c e) p h = length-part 0 threeSize p h
 
 -- An answer has as many bytes as answerSize says.
-pub length-answer : (q : Request) (p : List ℕ) → sizeOf kind.Qp ≤ length p → length (answerOf q p) ≡ answerSize q
+pub length-answer : (q : Request) (p : List ℕ) → joinedSize (recordsOf q) ≤ length p → length (answerOf q p) ≡ answerSize q
 length-answer (request.Command c) p h = length-command c p h
 length-answer (request.Engine e) p h = length-engine e p h
 
@@ -75,10 +80,16 @@ state-agrees : (js p c : List ℕ) → AgreeOn (0 ∷ js) p c → stateOf p ≡ 
 unfolding stateOf
 state-agrees js p c a = rw (a 0 (inl (omega arith, omega arith)))
 
+-- the front of both, of so many bursts
+front-agrees : (n : ℕ) (p c : List ℕ) → burstSize * n ≤ length p → burstSize * n ≤ length c → AgreeOn (burstsFrom 0 n) p c
+    → part 0 (burstSize * n) p ≡ part 0 (burstSize * n) c
+front-agrees n p c h k a =
+    part-agrees 0 (burstSize * n) p c (omega arith) (omega arith) (λ i j. a (0 + i) (all-touched n (0 + i) (omega arith)))
+
 whole-agrees : (p c : List ℕ) → sizeOf kind.Qp ≤ length p → sizeOf kind.Qp ≤ length c → AgreeOn (burstsFrom 0 16) p c
     → wholeAnswer p ≡ wholeAnswer c
 unfolding wholeAnswer
-whole-agrees p c h k a = part-agrees 0 (sizeOf kind.Qp) p c h k (λ i j. a (0 + i) (all-touched 16 (0 + i) (omega arith)))
+whole-agrees = front-agrees 16
 
 next-agrees : (p c : List ℕ) → sizeOf kind.Qp ≤ length p → sizeOf kind.Qp ≤ length c → AgreeOn (0 ∷ 6 ∷ []) p c
     → nextAnswer p ≡ nextAnswer c
@@ -89,7 +100,16 @@ next-agrees p c h k a =
       part-agrees 0x6d 3 p c (omega arith) (omega arith) (λ i j. a (0x6d + i) (inr (inl (omega arith, omega arith)))),
     )
 
-command-agrees : (d : Command) (p c : List ℕ) → sizeOf kind.Qp ≤ length p → sizeOf kind.Qp ≤ length c → AgreeOn (commandBursts d) p c
+joined-agrees : (p c : List ℕ) → threeSize ≤ length p → threeSize ≤ length c → AgreeOn (burstsFrom 0 24) p c
+    → joinedAnswer p ≡ joinedAnswer c
+unfolding joinedAnswer
+joined-agrees = front-agrees 24
+
+-- both have the request's records, or more
+abbrev Long : Request → List ℕ → Type 0
+Long q p = joinedSize (recordsOf q) ≤ length p
+
+command-agrees : (d : Command) (p c : List ℕ) → Long (request.Command d) p → Long (request.Command d) c → AgreeOn (commandBursts d) p c
     → commandAnswer d p ≡ commandAnswer d c
 command-agrees (command.Sw2Hw o) p c h k a = refl
 command-agrees (command.Hw2Sw o) p c h k a = refl
@@ -97,16 +117,17 @@ command-agrees (command.ResizeCq n) p c h k a = refl
 command-agrees (command.QueryQp n) p c h k a = whole-agrees p c h k a
 command-agrees (command.ModifyQp e n) p c h k a = refl
 
-engine-agrees : (e : EngineRequest) (p c : List ℕ) → sizeOf kind.Qp ≤ length p → sizeOf kind.Qp ≤ length c → AgreeOn (engineBursts e) p c
+engine-agrees : (e : EngineRequest) (p c : List ℕ) → Long (request.Engine e) p → Long (request.Engine e) c → AgreeOn (engineBursts e) p c
     → engineAnswer e p ≡ engineAnswer e c
 unfolding stateAnswer
 engine-agrees (engine.ReadState n) p c h k a = rw (state-agrees [] p c a)
 engine-agrees (engine.ReadNext n) p c h k a = next-agrees p c h k a
 engine-agrees (engine.ReadAll n) p c h k a = whole-agrees p c h k a
 engine-agrees (engine.Write w s n psn) p c h k a = refl
+engine-agrees (engine.ReadJoined n d e) p c h k a = joined-agrees p c h k a
 
 -- An answer depends only on the bytes that the request's bursts move.
-pub answer-agrees : (q : Request) (p c : List ℕ) → sizeOf kind.Qp ≤ length p → sizeOf kind.Qp ≤ length c → AgreeOn (burstsOf q) p c
-    → answerOf q p ≡ answerOf q c
+pub answer-agrees : (q : Request) (p c : List ℕ) → joinedSize (recordsOf q) ≤ length p → joinedSize (recordsOf q) ≤ length c
+    → AgreeOn (burstsOf q) p c → answerOf q p ≡ answerOf q c
 answer-agrees (request.Command d) p c h k a = command-agrees d p c h k a
 answer-agrees (request.Engine e) p c h k a = engine-agrees e p c h k a

@@ -1,5 +1,5 @@
-// The answer that collecting a request writes, read from the slot's part of the room, in which a queue
-// pair's record has room. Every function here is a leaf: its callers have tested the lengths.
+// The answer that collecting a request writes, read from the slot's part of the room. Every function here
+// is a leaf: its callers have tested the lengths.
 use requests::Command;
 use requests::EngineRequest;
 use requests::Request;
@@ -9,8 +9,9 @@ ghost use lib.ListN.{length};
 ghost use Rattle.words.specs.Parts.{splice};
 ghost use Rattle.context.specs.Layout.{sizeOf};
 ghost use Rattle.context.specs.declared.Kind.the-variants.{Qp};
-ghost use Rattle.answers.specs.Answers.{stateAnswer, nextAnswer, wholeAnswer, commandAnswer, engineAnswer, answerOf};
-ghost use Rattle.answers.specs.Answers.{commandAnswerSize, engineAnswerSize, answerSize};
+ghost use Rattle.burst_table.specs.Sizes.{slotRoom};
+ghost use Rattle.answers.specs.Answers.{stateAnswer, nextAnswer, wholeAnswer, joinedAnswer, commandAnswer, engineAnswer, answerOf};
+ghost use Rattle.answers.specs.Answers.{threeSize, commandAnswerSize, engineAnswerSize, answerSize};
 
 // How many bytes a command's answer has.
 fn command_answer_size(command: Command) -> usize
@@ -34,6 +35,7 @@ fn engine_answer_size(engine: EngineRequest) -> usize
         EngineRequest::ReadNext(_) => 4,
         EngineRequest::ReadAll(_) => 256,
         EngineRequest::Write(_, _, _, _) => 0,
+        EngineRequest::ReadJoined(_, _, _) => 384,
     }
 }
 
@@ -49,7 +51,7 @@ pub fn answer_size(request: Request) -> usize
 
 // Writes the state code.
 fn state_answer(room: &[u8], out: &mut [u8])
-    requires { ⌜ (sizeOf Qp ≤ length (now room)) × (1 ≤ length (now out)) ⌝ }
+    requires { ⌜ (slotRoom ≤ length (now room)) × (1 ≤ length (now out)) ⌝ }
     ensures { λ _. ⌜ now (out .exit) ≡ splice 0 (stateAnswer (now (room .entry))) (now (out .entry)) ⌝ }
 {
     out[0] = checks::state_code(room);
@@ -57,7 +59,7 @@ fn state_answer(room: &[u8], out: &mut [u8])
 
 // Writes the state code, then the next PSN, high byte first: as it stands in its word.
 fn next_answer(room: &[u8], out: &mut [u8])
-    requires { ⌜ (sizeOf Qp ≤ length (now room)) × (4 ≤ length (now out)) ⌝ }
+    requires { ⌜ (slotRoom ≤ length (now room)) × (4 ≤ length (now out)) ⌝ }
     ensures { λ _. ⌜ now (out .exit) ≡ splice 0 (nextAnswer (now (room .entry))) (now (out .entry)) ⌝ }
 {
     out[0] = checks::state_code(room);
@@ -66,15 +68,23 @@ fn next_answer(room: &[u8], out: &mut [u8])
 
 // Writes the whole record.
 fn whole_answer(room: &[u8], out: &mut [u8])
-    requires { ⌜ (sizeOf Qp ≤ length (now room)) × (sizeOf Qp ≤ length (now out)) ⌝ }
+    requires { ⌜ (slotRoom ≤ length (now room)) × (sizeOf Qp ≤ length (now out)) ⌝ }
     ensures { λ _. ⌜ now (out .exit) ≡ splice 0 (wholeAnswer (now (room .entry))) (now (out .entry)) ⌝ }
 {
     words::copy_to(&room[0..256], out, 0);
 }
 
+// Writes the three records of a joined read.
+fn joined_answer(room: &[u8], out: &mut [u8])
+    requires { ⌜ (slotRoom ≤ length (now room)) × (threeSize ≤ length (now out)) ⌝ }
+    ensures { λ _. ⌜ now (out .exit) ≡ splice 0 (joinedAnswer (now (room .entry))) (now (out .entry)) ⌝ }
+{
+    words::copy_to(&room[0..384], out, 0);
+}
+
 // Writes a command's answer.
 fn command_answer(command: Command, room: &[u8], out: &mut [u8])
-    requires { ⌜ (sizeOf Qp ≤ length (now room)) × (commandAnswerSize command ≤ length (now out)) ⌝ }
+    requires { ⌜ (slotRoom ≤ length (now room)) × (commandAnswerSize command ≤ length (now out)) ⌝ }
     ensures { λ _. ⌜ now (out .exit) ≡ splice 0 (commandAnswer command (now (room .entry))) (now (out .entry)) ⌝ }
 {
     match command {
@@ -88,7 +98,7 @@ fn command_answer(command: Command, room: &[u8], out: &mut [u8])
 
 // Writes an engine request's answer.
 fn engine_answer(engine: EngineRequest, room: &[u8], out: &mut [u8])
-    requires { ⌜ (sizeOf Qp ≤ length (now room)) × (engineAnswerSize engine ≤ length (now out)) ⌝ }
+    requires { ⌜ (slotRoom ≤ length (now room)) × (engineAnswerSize engine ≤ length (now out)) ⌝ }
     ensures { λ _. ⌜ now (out .exit) ≡ splice 0 (engineAnswer engine (now (room .entry))) (now (out .entry)) ⌝ }
 {
     match engine {
@@ -96,12 +106,13 @@ fn engine_answer(engine: EngineRequest, room: &[u8], out: &mut [u8])
         EngineRequest::ReadNext(_) => next_answer(room, out),
         EngineRequest::ReadAll(_) => whole_answer(room, out),
         EngineRequest::Write(_, _, _, _) => {}
+        EngineRequest::ReadJoined(_, _, _) => joined_answer(room, out),
     }
 }
 
 // Writes a request's answer to the front of `out`, from `room`, the slot's part of the room.
 pub fn write_answer(request: Request, room: &[u8], out: &mut [u8])
-    requires { ⌜ (sizeOf Qp ≤ length (now room)) × (answerSize request ≤ length (now out)) ⌝ }
+    requires { ⌜ (slotRoom ≤ length (now room)) × (answerSize request ≤ length (now out)) ⌝ }
     ensures { λ _. ⌜ now (out .exit) ≡ splice 0 (answerOf request (now (room .entry))) (now (out .entry)) ⌝ }
 {
     match request {

@@ -19,7 +19,8 @@ use Rattle.rules.specs.Commands.{decideCommand}
 use Rattle.rules.specs.Engines.{decideEngine}
 use Rattle.rules.specs.Calls.{Asked}
 use Rattle.rules.specs.Laws.Lent.{Sized, lent-sized}
-use Rattle.rules.specs.Laws.Decided.{Judging, Decided, plain, denied, takes, closes, rests, opens, command-decided, engine-decided}
+use Rattle.rules.specs.Laws.Decided.{Judging, Decided, plain, denied, misnamed, takes, closes, rests, opens}
+use Rattle.rules.specs.Laws.Decided.{command-decided, engine-decided}
 
 -- the counts are within their ranges, and the records lie in a store of s bytes
 pub record Opening (g : Logs) (s : ℕ) : Type 0 where
@@ -49,6 +50,7 @@ module _ (w : World) (mail : List ℕ) where
   decided-applies : {a : Asked} {d : Decision} → Decided w mail a d → Applies (storeLength w) (length (w .room)) (length mail) d
   decided-applies (plain c e) = tt
   decided-applies (denied j e) = tt
+  decided-applies (misnamed m) = tt
   decided-applies (takes {q = q} {k = k} j p e) = taking q k j (lowest-free-is (w .row) k e .inside)
   decided-applies (closes o f) = tt
   decided-applies rests = tt

@@ -41,12 +41,13 @@ pub data Shape : Type 0 where
   stateAndPsn : PsnField → Shape
 
 -- commands and request 6 move all bursts, request 1 the state's, requests 2 to 5 the state's and the PSN's
--- (01, Bursts, slots and holds)
+-- (01, Bursts, slots and holds); request 7 moves all bursts of its three records (02, wish 2)
 abbrev pub engineShape : EngineRequest → Shape
 engineShape (engine.ReadState n) = stateOnly
 engineShape (engine.ReadNext n) = stateAndPsn NextSend
 engineShape (engine.ReadAll n) = whole
 engineShape (engine.Write p s n psn) = stateAndPsn p
+engineShape (engine.ReadJoined n c e) = whole
 
 abbrev pub shapeOf : Request → Shape
 shapeOf (request.Command c) = whole

@@ -1,6 +1,7 @@
 -- The burst table keeps to the records: by shape, the bursts of every request fit its records and the slot's part of the room, none comes
 -- twice, and there is one at least.
 use mathlib.Core.Path.{_≡_, refl, sym, _∙_, ap, subst}
+use mathlib.Core.Bool.{true}
 use mathlib.Core.List.{List, [], _∷_}
 use Prim.Native.Nat.{ℕ, _+_, _*_, _/_, _≤_, _<_}
 use native.Mathlib.Nat.{add-zero, zero-add}
@@ -9,7 +10,6 @@ use lib.Dec.{lit≤}
 use lib.ListN.{length, getD}
 use Rattle.context.specs.Layout.{sizeOf, recordSize}
 use Rattle.context.specs.declared.Kind.the-variants as kind
-use Rattle.context.specs.declared.QpNumber.{QpNumber}
 use Rattle.context.specs.declared.Record.{Record}
 use Rattle.context.specs.declared.Record.the-variants as rec
 use Rattle.requests.specs.declared.Owned.{Owned}
@@ -22,12 +22,12 @@ use Rattle.requests.specs.declared.EngineRequest.{EngineRequest}
 use Rattle.requests.specs.declared.EngineRequest.the-variants as engine
 use Rattle.requests.specs.declared.Request.{Request}
 use Rattle.requests.specs.declared.Request.the-variants as request
-use Rattle.request_table.specs.Records.{ownedRecord, recordOf, recordsOf}
+use Rattle.request_table.specs.Records.{ownedRecord, recordOf, recordsOf, writesOf}
 use Rattle.mailboxes.specs.Mailboxes.{needOf}
-use Rattle.request_table.specs.Laws.{record-small, need-record}
+use Rattle.request_table.specs.Laws.{record-small, write-one, need-record}
 use Rattle.burst_table.specs.Sizes.{burstSize, slotRoom}
 use Rattle.burst_table.specs.Bursts.{psnPlace, joinedSize, burstCount, Shape, whole, stateOnly, stateAndPsn}
-use Rattle.burst_table.specs.Bursts.{shapeOf, burstsBy, burstsOf, commandBursts, engineBursts, totalOf, offsetOf}
+use Rattle.burst_table.specs.Bursts.{engineShape, shapeOf, burstsBy, burstsOf, commandBursts, engineBursts, totalOf, offsetOf}
 use Rattle.burst_table.specs.Touched.{Fit, Distinct, fit-more, fit-at, length-row, at-burst, row-fit, row-once}
 
 -- ---- records and their bursts
@@ -89,6 +89,7 @@ engine-least (engine.ReadState n) = lit≤ tt
 engine-least (engine.ReadNext n) = lit≤ tt
 engine-least (engine.ReadAll n) = lit≤ tt
 engine-least (engine.Write p s n psn) = lit≤ tt
+engine-least (engine.ReadJoined n c e) = lit≤ tt
 
 shape-least : (q : Request) → leastOf (shapeOf q) ≤ joinedSize (recordsOf q)
 shape-least (request.Command c) = omega arith
@@ -98,9 +99,10 @@ shape-least (request.Engine e) = engine-least e
 pub bursts-joined : (q : Request) → Fit (joinedSize (recordsOf q)) (burstsOf q)
 bursts-joined q = fit-by (shapeOf q) (recordsOf q) (shape-least q)
 
--- and where there is one, that
-pub bursts-fit : (q : Request) → Fit (recordSize (recordOf q)) (burstsOf q)
-bursts-fit q = subst (λ (n : ℕ). Fit n (burstsOf q)) (add-zero (recordSize (recordOf q))) (bursts-joined q)
+-- those of a write, which has one record, fit that
+pub bursts-fit : (q : Request) → writesOf q ≡ true → Fit (recordSize (recordOf q)) (burstsOf q)
+bursts-fit q w =
+    subst (λ (n : ℕ). Fit n (burstsOf q)) (ap joinedSize (write-one q w) ∙ add-zero (recordSize (recordOf q))) (bursts-joined q)
 
 -- no burst comes twice
 pub bursts-once : (q : Request) → Distinct (burstsOf q)
@@ -111,14 +113,22 @@ bursts-later q = later-by (shapeOf q) (recordsOf q)
 
 -- ---- the slot's part of the room is large enough
 
-pub record-room : (q : Request) → recordSize (recordOf q) ≤ slotRoom
-record-room = record-small
+engine-room : (e : EngineRequest) → joinedSize (recordsOf (request.Engine e)) ≤ slotRoom
+engine-room (engine.ReadState n) = lit≤ tt
+engine-room (engine.ReadNext n) = lit≤ tt
+engine-room (engine.ReadAll n) = lit≤ tt
+engine-room (engine.Write p s n psn) = lit≤ tt
+engine-room (engine.ReadJoined n c e) = lit≤ tt
+
+pub records-room : (q : Request) → joinedSize (recordsOf q) ≤ slotRoom
+records-room (request.Command c) = omega (arith, record-small (request.Command c))
+records-room (request.Engine e) = engine-room e
 
 pub need-small : (q : Request) → needOf q ≤ slotRoom
 need-small q = omega (arith, need-record q, record-small q)
 
 pub bursts-room : (q : Request) → Fit slotRoom (burstsOf q)
-bursts-room q = fit-more (recordSize (recordOf q)) slotRoom (burstsOf q) (record-room q) (bursts-fit q)
+bursts-room q = fit-more (joinedSize (recordsOf q)) slotRoom (burstsOf q) (records-room q) (bursts-joined q)
 
 -- ---- total and offset, by the list of bursts
 
@@ -128,12 +138,15 @@ total-bursts q = refl
 pub offset-burst : (q : Request) (m : ℕ) → offsetOf q m ≡ burstSize * getD (burstsOf q) m 0
 offset-burst q m = omega arith
 
--- every burst lies in the record, and so in the slot's part of the room
-pub offset-small : (q : Request) (m : ℕ) → m < totalOf q → offsetOf q m + burstSize ≤ recordSize (recordOf q)
-offset-small q m h = omega (arith, fit-at (recordSize (recordOf q)) (burstsOf q) m (bursts-fit q) h)
+-- every burst lies in the records, and so in the slot's part of the room; that of a write in its one record
+pub offset-joined : (q : Request) (m : ℕ) → m < totalOf q → offsetOf q m + burstSize ≤ joinedSize (recordsOf q)
+offset-joined q m h = omega (arith, fit-at (joinedSize (recordsOf q)) (burstsOf q) m (bursts-joined q) h)
 
 pub offset-room : (q : Request) (m : ℕ) → m < totalOf q → offsetOf q m + burstSize ≤ slotRoom
-offset-room q m h = omega (arith, offset-small q m h, record-room q)
+offset-room q m h = omega (arith, offset-joined q m h, records-room q)
+
+pub offset-small : (q : Request) → writesOf q ≡ true → (m : ℕ) → m < totalOf q → offsetOf q m + burstSize ≤ recordSize (recordOf q)
+offset-small q w m h = omega (arith, fit-at (recordSize (recordOf q)) (burstsOf q) m (bursts-fit q w) h)
 
 -- ---- what the code answers
 
@@ -161,12 +174,13 @@ command-offset q c m r e h f =
     let h′ : m < totalOf (request.Command c) = rw e at h in
     f ∙ whole-offset (recordsOf (request.Command c)) m h′ ∙ sym (ap (λ (x : Request). offsetOf x m) e)
 
-pub all-offset : (e : EngineRequest) (n : QpNumber) (m r : ℕ) → e ≡ engine.ReadAll n → m < length (engineBursts e) → r ≡ m * burstSize
+pub all-offset : (e f : EngineRequest) (m r : ℕ) → e ≡ f → engineShape f ≡ whole → m < length (engineBursts e) → r ≡ m * burstSize
     → r ≡ getD (engineBursts e) m 0 * burstSize
-all-offset e n m r f h g =
-    let h′ : m < length (engineBursts (engine.ReadAll n)) = rw f at h in
-    g ∙ whole-offset (recordsOf (request.Engine (engine.ReadAll n))) m h′
-    ∙ sym (ap (λ (x : EngineRequest). getD (engineBursts x) m 0 * burstSize) f)
+all-offset e f m r i s h g =
+    let b : engineBursts e ≡ burstsBy whole (recordsOf (request.Engine e)) =
+    ap (λ (x : Shape). burstsBy x (recordsOf (request.Engine e))) (ap engineShape i ∙ s) in
+    let h′ : m < length (burstsBy whole (recordsOf (request.Engine e))) = subst (λ (l : List ℕ). m < length l) b h in
+    g ∙ whole-offset (recordsOf (request.Engine e)) m h′ ∙ sym (ap (λ (l : List ℕ). getD l m 0 * burstSize) b)
 
 pub psn-first : (p : PsnField) (m : ℕ) → m ≡ 0 → 0 ≡ getD (burstsBy (stateAndPsn p) []) m 0 * burstSize
 psn-first p m e = rw e

@@ -9,9 +9,10 @@ burstSize = 16
 abbrev pub slotCount : ℕ
 slotCount = 8
 
--- the bytes of one slot's part of the room
+-- the bytes of one slot's part of the room: a joined answer has a queue pair's 256, and the 64 of a completion queue and of an event
+-- queue (02, wish 2)
 abbrev pub slotRoom : ℕ
-slotRoom = 256
+slotRoom = 384
 
 -- the bytes of the room: every slot has a part
 abbrev pub roomSize : ℕ

@@ -17,7 +17,7 @@ pub const BURST: usize = 16;
 pub const SLOTS: usize = 8;
 
 // The bytes of one slot's part of the room.
-pub const SLOT_ROOM: usize = 256;
+pub const SLOT_ROOM: usize = 384;
 
 // The bytes of the room.
 pub const ROOM: usize = SLOTS * SLOT_ROOM;
@@ -62,6 +62,7 @@ fn engine_total(engine: EngineRequest) -> u8
         EngineRequest::ReadNext(_) => 2,
         EngineRequest::ReadAll(_) => 16,
         EngineRequest::Write(_, _, _, _) => 2,
+        EngineRequest::ReadJoined(_, _, _) => 24,
     }
 }
 
@@ -75,7 +76,7 @@ pub fn total(request: Request) -> u8
     }
 }
 
-// Burst m of a request that moves all bursts of its record.
+// Burst m of a request that moves all bursts of its records.
 fn whole_offset(m: u8) -> usize
     ensures { λ r. ⌜ r ≡ m * burstSize ⌝ }
 {
@@ -102,10 +103,11 @@ fn engine_offset(engine: EngineRequest, m: u8) -> usize
         EngineRequest::ReadNext(_) => psn_offset(PsnField::NextSend, m),
         EngineRequest::ReadAll(_) => whole_offset(m),
         EngineRequest::Write(which, _, _, _) => psn_offset(which, m),
+        EngineRequest::ReadJoined(_, _, _) => whole_offset(m),
     }
 }
 
-// Where burst m of a request starts in its record.
+// Where burst m of a request starts in its records, one behind the other.
 pub fn offset(request: Request, m: u8) -> usize
     requires { ⌜ m < totalOf request ⌝ }
     ensures { λ r. ⌜ r ≡ offsetOf request m ⌝ }

@@ -143,6 +143,7 @@ fn engine_burst(engine: EngineRequest, burst: &mut [u8], first: usize)
             burst,
             first,
         ),
+        EngineRequest::ReadJoined(_, _, _) => {}
     }
 }
 

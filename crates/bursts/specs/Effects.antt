@@ -1,6 +1,7 @@
 -- What the byte rule leaves of a record: all outside the request's bursts, and after a write that sets a state that state. So
 -- the bursts of a request are its whole effect (`writes-whole`).
 use mathlib.Core.Path.{_≡_, refl, _∙_, ap}
+use mathlib.Core.Bool.{true}
 use mathlib.Core.List.{List, [], _∷_}
 use mathlib.Core.Logic.{inl, inr}
 use Prim.Native.Nat.{ℕ, _+_, _/_, _≤_, _<_}
@@ -19,7 +20,7 @@ use Rattle.requests.specs.declared.Command.the-variants as command
 use Rattle.requests.specs.declared.EngineRequest.the-variants as engine
 use Rattle.requests.specs.declared.Request.{Request}
 use Rattle.requests.specs.declared.Request.the-variants as request
-use Rattle.request_table.specs.Records.{recordOf}
+use Rattle.request_table.specs.Records.{recordOf, writesOf}
 use Rattle.burst_table.specs.Sizes.{burstSize}
 use Rattle.burst_table.specs.Bursts.{psnPlace, burstCount, whole, stateAndPsn, burstsBy, burstsOf}
 use Rattle.burst_table.specs.Touched.{Inside, Touched, all-touched}
@@ -66,12 +67,14 @@ byte-kept (request.Engine (engine.ReadState m)) mail i b h n = refl
 byte-kept (request.Engine (engine.ReadNext m)) mail i b h n = refl
 byte-kept (request.Engine (engine.ReadAll m)) mail i b h n = refl
 byte-kept (request.Engine (engine.Write p s m psn)) mail i b h n = write-kept p psn s i b n
+byte-kept (request.Engine (engine.ReadJoined m c e)) mail i b h n = refl
 
--- all the bursts of a request, each from what stands there, are its whole effect on the record c
-pub writes-whole : (q : Request) (mail c : List ℕ) → length c ≡ recordSize (recordOf q)
+-- all the bursts of a write, each from what stands there, are its whole effect on the record c
+pub writes-whole : (q : Request) → writesOf q ≡ true → (mail c : List ℕ) → length c ≡ recordSize (recordOf q)
     → after (byteOf q mail) (burstsOf q) c ≡ mapFrom (byteOf q mail) 0 c
-writes-whole q mail c e =
-    after-whole (byteOf q mail) (burstsOf q) c (rw e (bursts-fit q)) (bursts-once q) (λ i b l n. byte-kept q mail i b (omega (arith, e)) n)
+writes-whole q w mail c e =
+    after-whole (byteOf q mail) (burstsOf q) c (rw e (bursts-fit q w)) (bursts-once q)
+    (λ i b l n. byte-kept q mail i b (omega (arith, e)) n)
 
 -- The state that a request leaves, if it sets one (01, Commands and Engine requests).
 abbrev pub Sets : Request → State → Type 0
@@ -84,6 +87,7 @@ Sets (request.Engine (engine.ReadState n)) s = ⊥
 Sets (request.Engine (engine.ReadNext n)) s = ⊥
 Sets (request.Engine (engine.ReadAll n)) s = ⊥
 Sets (request.Engine (engine.Write p t n psn)) s = t ≡ s
+Sets (request.Engine (engine.ReadJoined n c e)) s = ⊥
 
 pub state-after : (q : Request) (s : State) → Sets q s → (mail : List ℕ) (b : ℕ) → byteOf q mail 0 b / 16 ≡ stateCode s
 state-after (request.Command (command.Sw2Hw o)) s x mail b = absurd x
@@ -95,6 +99,7 @@ state-after (request.Engine (engine.ReadState n)) s x mail b = absurd x
 state-after (request.Engine (engine.ReadNext n)) s x mail b = absurd x
 state-after (request.Engine (engine.ReadAll n)) s x mail b = absurd x
 state-after (request.Engine (engine.Write p t n psn)) s x mail b = write-state p psn t b ∙ ap stateCode x
+state-after (request.Engine (engine.ReadJoined n c e)) s x mail b = absurd x
 
 -- the record's state is set by the first burst
 pub state-first : (q : Request) (s : State) → Sets q s → (mail c : List ℕ) → burstSize ≤ length c

@@ -15,7 +15,7 @@ use Rattle.mailboxes.specs.Mailboxes.{needOf}
 use Rattle.burst_table.specs.Sizes.{slotCount, slotRoom, roomSize, slotStart}
 use Rattle.burst_table.specs.Laws.{need-small}
 
--- slot k's part of the room (01, Bursts, slots and holds: 256 bytes for each slot)
+-- slot k's part of the room (01, Bursts, slots and holds; 02, wish 2: 384 bytes for each slot)
 unfoldable pub roomOf : ℕ → List ℕ → List ℕ
 roomOf k room = part (slotStart k) slotRoom room
 

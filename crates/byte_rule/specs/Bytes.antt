@@ -66,6 +66,7 @@ engineByte (engine.ReadState n) i old = old
 engineByte (engine.ReadNext n) i old = old
 engineByte (engine.ReadAll n) i old = old
 engineByte (engine.Write p s n psn) i old = writeByte p psn s i old
+engineByte (engine.ReadJoined n c e) i old = old
 
 -- Byte i after the request. An engine request has no mailbox.
 abbrev pub byteOf : Request → List ℕ → ℕ → ℕ → ℕ

@@ -6,9 +6,11 @@
 -- * `States`, demand 2's edges: of the next call, between the chain's last world and the world that this call leaves. The front of a
 --   chain is a chain (`Fronts`), so every call of the chain is such a next call.
 -- * `Serial`, demand 3: of the chain's own last world, and of the journal of its own calls and answers.
+-- * `Holding`: while a joined read runs, the names in its slot are those in the store, and those that the book finds at its place.
 -- * `Zeroed`: the book of demand 3 starts with records that are all zero.
 -- And of one call, in a chain or not: `Fixed`, it answers and leaves what the rules say; `Refusals`, a refusal leaves everything.
--- `States`, `Serial` and `Zeroed` speak of the worlds, answers and journal of the calls that were made, not of those of the rules.
+-- `States`, `Serial`, `Holding` and `Zeroed` speak of the worlds, answers and journal of the calls that were made, not of those of the
+-- rules.
 --
 -- What is not claimed: anything of calls between which somebody else writes the lent memory, or of a call that is handed another state or
 -- row than the call before left; such a call is one of another chain. Of calls between a reset that answers 0 and the next initialisation
@@ -29,6 +31,7 @@ use Rattle.rules.specs.Calls.{Call, Answer, answerTo, worldAfter}
 use Rattle.rules.specs.Lending.{proper}
 use Rattle.rules.specs.Demand2.{StateMove}
 use Rattle.rules.specs.Demand3.{bookOf, Demand3}
+use Rattle.rules.specs.Running.{NamesStand}
 use Rattle.rules.specs.Frames.{refusedBy, bufferOf, bufferAfter}
 use Rattle.chains.specs.Links.{Form, Promised, Made, Linked, after, isInitialisation, Chain, endOf, journalOf}
 
@@ -92,6 +95,14 @@ Serial F =
     → let start : World = after before first in
     Demand3 (bookOf (proper start)) (proper (endOf start calls)) (journalOf start [] calls)
 
+-- what the holds of a joined read are for (02, wish 2)
+abbrev pub Holding : Form → Type 0
+Holding F =
+    (before : World) (first : Made) → Begins F before first
+    → (calls : List Made) → Chain F (after before first) calls
+    → let start : World = after before first in
+    NamesStand (bookOf (proper start)) (proper (endOf start calls)) (journalOf start [] calls)
+
 -- the book of demand 3 at its start
 abbrev pub Zeroed : Form → Type 0
 Zeroed F =
@@ -107,6 +118,7 @@ pub record Demands (F : Form) : Type 0 where
   pub states : States F
   pub fronts : Fronts F
   pub serial : Serial F
+  pub holding : Holding F
   pub zeroed : Zeroed F
 
 abbrev pub EveryForm : Type 1

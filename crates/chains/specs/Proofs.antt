@@ -20,11 +20,12 @@ use Rattle.rules.specs.Lending.{LentCall, lend, giveBack, answerLent, worldLent
 use Rattle.rules.specs.Frames.{refusedBy, bufferOf, bufferAfter}
 use Rattle.rules.specs.Demand2.{Demand2}
 use Rattle.rules.specs.Demand3.{Entry, noted, Run, runFrom, bookOf, Demand3}
+use Rattle.rules.specs.Running.{NamesStand}
 use Rattle.rules.specs.Theorems as theorems
 use Rattle.chains.specs.Links.{Form, Link, commandLink, engineLink, stepLink, collectLink, resetLink}
 use Rattle.chains.specs.Links.{Promised, commandPromised, enginePromised, stepPromised, collectPromised, resetPromised}
 use Rattle.chains.specs.Links.{Made, Linked, after, isInitialisation, endsChain, Chain, none, next, endOf, journalOf}
-use Rattle.chains.specs.Claims.{Promises, Kept, Fixed, Refusals, Begins, Edges, States, Fronts, Serial, Zeroed}
+use Rattle.chains.specs.Claims.{Promises, Kept, Fixed, Refusals, Begins, Edges, States, Fronts, Serial, Zeroed, Holding}
 
 -- ---- one call
 
@@ -156,6 +157,16 @@ module _ (F : Form) (promises : Promises F) where
       (run-is before first i calls chain)
       (subst (λ (s : World). Demand3 (bookOf (proper s)) (proper (end .world)) (end .journal)) (start-is before first i)
       (theorems.demand3 before (lentOf first) (begun before first i) (map lentOf calls)))
+    where
+      end : Run
+      end = runFrom (worldLent before (lentOf first)) [] (map lentOf calls)
+
+  pub holding : Holding F
+  holding before first i calls chain =
+      subst (λ (r : Run). NamesStand (bookOf (proper (after before first))) (proper (r .world)) (r .journal))
+      (run-is before first i calls chain)
+      (subst (λ (s : World). NamesStand (bookOf (proper s)) (proper (end .world)) (end .journal)) (start-is before first i)
+      (theorems.running before (lentOf first) (begun before first i) (map lentOf calls)))
     where
       end : Run
       end = runFrom (worldLent before (lentOf first)) [] (map lentOf calls)

@@ -1,6 +1,6 @@
 -- THE THEOREMS about chains of calls. They assume nothing.
 use Rattle.chains.specs.Links.{Link}
-use Rattle.chains.specs.Claims.{Promises, Kept, Fixed, Refusals, States, Fronts, Serial, Zeroed, EveryForm}
+use Rattle.chains.specs.Claims.{Promises, Kept, Fixed, Refusals, States, Fronts, Serial, Holding, Zeroed, EveryForm}
 use Rattle.chains.specs.Proofs as proofs
 
 -- ---- of every form of the operations that gives the promise
@@ -12,6 +12,7 @@ every-form F gives = record {
   states = proofs.states F gives;
   fronts = proofs.fronts F gives;
   serial = proofs.serial F gives;
+  holding = proofs.holding F gives;
   zeroed = proofs.zeroed F gives;
 }
 
@@ -44,6 +45,10 @@ fronts = every-form Link promises .fronts
 -- book's
 pub demand3 : Serial Link
 demand3 = every-form Link promises .serial
+
+-- while a joined read runs, the names in its slot are those in the store, and those that the book finds at its place
+pub running : Holding Link
+running = every-form Link promises .holding
 
 -- the book starts with records that are all zero
 pub zeroed : Zeroed Link

@@ -21,6 +21,14 @@ serviceOf r = getD r 1 0
 unfoldable pub isHardware : List ℕ → Bool
 isHardware r = eqb (getD r 63 0) 1
 
+-- The completion queue of a queue pair's sends is named in word 70h, and a completion queue's event queue in word 10h: a name is the whole
+-- word (02, wish 2).
+unfoldable pub cqNamed : List ℕ → ℕ
+cqNamed r = be32 0x70 r
+
+unfoldable pub eqNamed : List ℕ → ℕ
+eqNamed r = be32 0x10 r
+
 -- Of bytes, they are the bits of word 00h that 01 names.
 pub state-bits : (r : List ℕ) → AreBytes r → 4 ≤ length r → bits 31 28 (be32 0 r) ≡ stateOf r
 unfolding bits stateOf

@@ -48,6 +48,7 @@ enginePermits (engine.ReadState n) r = Permitted
 enginePermits (engine.ReadNext n) r = Permitted
 enginePermits (engine.ReadAll n) r = Permitted
 enginePermits (engine.Write p s n psn) r = moveVerdict (move.Engine s) r
+enginePermits (engine.ReadJoined n c e) r = Permitted
 
 -- What a record with these bytes answers to a request.
 abbrev pub permissionOf : Request → List ℕ → Verdict
@@ -71,6 +72,7 @@ permitsEngine (engine.ReadState n) r = true
 permitsEngine (engine.ReadNext n) r = true
 permitsEngine (engine.ReadAll n) r = true
 permitsEngine (engine.Write p s n psn) r = permitsMove (move.Engine s) r
+permitsEngine (engine.ReadJoined n c e) r = true
 
 abbrev pub permitsIn : Request → List ℕ → Bool
 permitsIn (request.Command c) r = permitsCommand c r
@@ -106,6 +108,7 @@ engine-number (engine.ReadState n) r = refl
 engine-number (engine.ReadNext n) r = refl
 engine-number (engine.ReadAll n) r = refl
 engine-number (engine.Write p s n psn) r = move-number (move.Engine s) r
+engine-number (engine.ReadJoined n c e) r = refl
 
 pub permission-number : (q : Request) (r : List ℕ) → verdictNumber (permissionOf q r) ≡ pick (permitsIn q r) 0 0x85
 permission-number (request.Command c) r = command-number c r

@@ -11,15 +11,17 @@ ghost use Rattle.words.specs.Choice.{pick};
 ghost use Rattle.words.specs.Parts.{part};
 ghost use Rattle.context.specs.Layout.{recordSize};
 ghost use Rattle.request_table.specs.Records.{recordOf};
-ghost use Rattle.checks.specs.Fields.{stateOf, serviceOf, isHardware};
+ghost use Rattle.checks.specs.Fields.{stateOf, serviceOf, cqNamed, eqNamed, isHardware};
 ghost use Rattle.checks.specs.Verdicts.{verdictNumber, byEdge};
 ghost use Rattle.checks.specs.Permission.{softwareOnly, hardwareOnly, moveVerdict, commandPermits, enginePermits};
 ghost use Rattle.checks.specs.Permission.{permissionOf, permitsIn};
 
-// Why a record's state denies a request: the edge is not permitted, or the owner is the wrong one.
+// Why a record's state denies a request: the edge is not permitted, the owner is the wrong one, or
+// the record names another that the store has not.
 pub enum Denial {
     Edge,
     Owner,
+    Name,
 }
 
 // What a record answers to a request.
@@ -42,6 +44,22 @@ pub fn service(rec: &[u8]) -> u8
     ensures { λ r. ⌜ r ≡ serviceOf (now (rec .entry)) ⌝ }
 {
     rec[1]
+}
+
+// The name of the completion queue of a queue pair's sends, word 70h.
+pub fn cq_named(rec: &[u8]) -> u32
+    requires { ⌜ 0x74 ≤ length (now rec) ⌝ }
+    ensures { λ r. ⌜ r ≡ cqNamed (now (rec .entry)) ⌝ }
+{
+    words::read_be32(rec, 0x70)
+}
+
+// The name of a completion queue's event queue, word 10h.
+pub fn eq_named(rec: &[u8]) -> u32
+    requires { ⌜ 0x14 ≤ length (now rec) ⌝ }
+    ensures { λ r. ⌜ r ≡ eqNamed (now (rec .entry)) ⌝ }
+{
+    words::read_be32(rec, 0x10)
 }
 
 // Whether the hardware owns the record.
@@ -116,6 +134,7 @@ fn engine_permitted(engine: EngineRequest, rec: &[u8]) -> Verdict
         EngineRequest::ReadNext(_) => Verdict::Permitted,
         EngineRequest::ReadAll(_) => Verdict::Permitted,
         EngineRequest::Write(_, to, _, _) => move_permitted(Move::Engine(to), rec),
+        EngineRequest::ReadJoined(_, _, _) => Verdict::Permitted,
     }
 }
 

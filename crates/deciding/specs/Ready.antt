@@ -9,6 +9,8 @@ use lib.ListN.{length}
 use Rattle.words.specs.Choice.{both-left}
 use Rattle.context.specs.Layout.{isRecord, rangesHold, fitsStore}
 use Rattle.context.specs.declared.Logs.{Logs}
+use Rattle.context.specs.declared.QpNumber.{QpNumber}
+use Rattle.context.specs.declared.Record.the-variants as rec
 use Rattle.requests.specs.declared.EngineRequest.{EngineRequest}
 use Rattle.requests.specs.declared.Request.{Request}
 use Rattle.requests.specs.declared.Request.the-variants as request
@@ -32,6 +34,7 @@ use Rattle.rules.specs.Laws.Lent.{open-fits}
 use Rattle.rules.specs.Laws.Found.{Valid, engine-valid}
 use Rattle.rules.specs.Laws.Decided.{Passing}
 use Rattle.lengths.specs.Lengths.{lengthsWrong, passing}
+use Rattle.deciding_joined.specs.Named.{Has}
 
 -- while open, the counts are within their ranges and the records lie in the lent memory
 pub record OpenFits (h : Hca) (store : List ℕ) : Type 0 where
@@ -54,17 +57,19 @@ pub open-stored : (h : Hca) (store : List ℕ) (q : Request) → OpenFits h stor
     → Stored (h .logs) store q
 open-stored h store q f o v = record { ranges = f .ranges o; valid = v; fits = f .fits o }
 
--- the memory has the record of the engine request that is found
+-- the memory has the record of the engine request that is found; of a joined read, the queue pair
 pub record EngineStored (g : Logs) (store : List ℕ) (f : EngineFound) : Type 0 where
   pub stored : (e : EngineRequest) → f ≡ found.OnRecord e → Stored g store (request.Engine e)
+  pub joined : (n : QpNumber) → f ≡ found.Joined n → Has g store (rec.Qp n)
 
 pub engine-stored : (h : Hca) (store : List ℕ) (n : EngineNumber) (index psn state : ℕ) (f : EngineFound) → OpenFits h store
     → not (h .«open») ≡ false → f ≡ readEngine (h .logs) n index psn state → EngineStored (h .logs) store f
 engine-stored h store n index psn state f r o e =
+    let opened : h .«open» ≡ true = not-false (h .«open») o in
+    let valid : Valid (h .logs) f = subst (Valid (h .logs)) (sym e) (engine-valid (h .logs) n index psn state) in
     record {
-      stored = λ x i.
-          open-stored h store (request.Engine x) r (not-false (h .«open») o)
-          (subst (Valid (h .logs)) (sym e ∙ i) (engine-valid (h .logs) n index psn state));
+      stored = λ x i. open-stored h store (request.Engine x) r opened (subst (Valid (h .logs)) i valid .0);
+      joined = λ x i. record { ranges = r .ranges opened; valid = subst (Valid (h .logs)) i valid; fits = r .fits opened };
     }
 
 -- ---- tests, as calls answered them

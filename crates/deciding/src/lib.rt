@@ -1,11 +1,10 @@
 // What is decided of a submission, from what is lent; nothing is changed. Here the end of both
-// decisions, and the whole of an engine request's.
+// decisions, and an engine request's; `deciding_joined` has that of a joined read.
 use checks::Verdict;
 use engines::EngineFound;
 use engines::NumberFound;
 use possible::Hca;
 use requests::Request;
-use rows::SlotFound;
 use rules::Decision;
 use rules::Refusal;
 use slots::Slot;
@@ -15,26 +14,16 @@ ghost use Prim.Native.Nat.{ℕ};
 ghost use Rattle.possible.specs.declared.Hca.{Hca as State};
 ghost use Rattle.records.specs.Calls.{Stored};
 ghost use Rattle.rules.specs.World.{world};
-ghost use Rattle.rules.specs.Admission.{decidePlace, decideVerdict, decideRequest};
+ghost use Rattle.rules.specs.Admission.{decideVerdict, decideRequest};
 ghost use Rattle.rules.specs.Engines.{decideAsked, decideNumber, decideEngine};
 ghost use Rattle.deciding.specs.Ready.{OpenFits, EngineStored};
-
-// The slot that the request takes.
-fn decide_place(request: Request, found: SlotFound) -> Decision
-    ensures { λ r. ⌜ r ≡ decidePlace request found ⌝ }
-{
-    match found {
-        SlotFound::At(k) => Decision::Take(request, k),
-        SlotFound::Nothing => Decision::Refuse(Refusal::Full),
-    }
-}
 
 // What the record says of the request.
 fn decide_verdict(row: [Slot; 8], request: Request, verdict: Verdict) -> Decision
     ensures { λ r. ⌜ ((h : State) (store room : List ℕ) → r ≡ decideVerdict (world h row store room) request verdict) ⌝ }
 {
     match verdict {
-        Verdict::Permitted => decide_place(request, row_scans::lowest_free(row)),
+        Verdict::Permitted => deciding_joined::decide_place(request, row_scans::lowest_free(row)),
         Verdict::Denied(denial) => Decision::Refuse(Refusal::Denied(denial)),
     }
 }
@@ -64,7 +53,8 @@ pub fn decide_request(
     decide_verdict(row, request, records::permission(logs, store, request))
 }
 
-// Index, PSN and state of an engine request. It has no mailbox.
+// Index, PSN and state of an engine request. It has no mailbox. A joined read is asked for by its queue
+// pair alone: the names of the other records are still to be read.
 fn decide_asked(hca: Hca, row: [Slot; 8], store: &[u8], found: EngineFound) -> Decision
     requires { ⌜ EngineStored (hca .logs) (now store) found ⌝ }
     ensures { λ r. ⌜ ((room : List ℕ) → r ≡ decideAsked (world hca row (now (store .entry)) room) found) ⌝ }
@@ -77,6 +67,7 @@ fn decide_asked(hca: Hca, row: [Slot; 8], store: &[u8], found: EngineFound) -> D
             &store[0..0],
             Request::Engine(engine),
         ),
+        EngineFound::Joined(n) => deciding_joined::decide_joined(hca, row, store, n),
         EngineFound::Wrong => Decision::Refuse(Refusal::BadParameter),
     }
 }

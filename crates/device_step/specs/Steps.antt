@@ -13,7 +13,9 @@ use Rattle.words.specs.Choice.{both-left, pick-no}
 use Rattle.context.specs.Layout.{rangesHold, fitsStore}
 use Rattle.requests.specs.declared.Request.{Request}
 use Rattle.burst_table.specs.Sizes.{slotCount}
+use Rattle.request_table.specs.Records.{recordsOf}
 use Rattle.records.specs.Calls.{Moving}
+use Rattle.records.specs.Laws.{all-records}
 use Rattle.slots.specs.Slots.{slot, advancedSlot}
 use Rattle.slots.specs.declared.Advanced.{Advanced}
 use Rattle.slots.specs.declared.Slot.{Slot}
@@ -71,6 +73,7 @@ module _ {w : World} {k : ℕ} {s : Slot} {q : Request} {m : ℕ} (found : Looke
       valid = right .valid;
       fits = open-fits w (found .passing .lent) (found .passing .possible) opened;
     };
+    all = all-records (w .hca .logs) (recordsOf q) (right .all);
     more = right .more;
     below = in-row w lengths-right k (never-free q m (statusAt k (w .row)) now);
     roomed = lengths-right .roomed;

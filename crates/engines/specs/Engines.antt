@@ -15,7 +15,6 @@ use Rattle.edges.specs.declared.State.the-variants.{Reset, Init, Rtr, Rts, Sqe,
 use Rattle.requests.specs.Psns.{psnFits}
 use Rattle.requests.specs.declared.PsnField.{PsnField}
 use Rattle.requests.specs.declared.PsnField.the-variants.{NextSend, LastAcked, Expected}
-use Rattle.requests.specs.declared.EngineRequest.{EngineRequest}
 use Rattle.requests.specs.declared.EngineRequest.the-variants as engine
 use Rattle.engines.specs.declared.EngineNumber.{EngineNumber}
 use Rattle.engines.specs.declared.EngineNumber.the-variants as number
@@ -24,9 +23,9 @@ use Rattle.engines.specs.declared.NumberFound.the-variants.{Served, NotS
 use Rattle.engines.specs.declared.StateFound.{StateFound}
 use Rattle.engines.specs.declared.StateFound.the-variants as stateFound
 use Rattle.engines.specs.declared.EngineFound.{EngineFound}
-use Rattle.engines.specs.declared.EngineFound.the-variants.{OnRecord, Wrong}
+use Rattle.engines.specs.declared.EngineFound.the-variants.{OnRecord, Joined, Wrong}
 
--- What each number asks for: 1, 2 and 6 read, 3 to 5 write a PSN and the state (01, Engine requests).
+-- What each number asks for: 1, 2 and 6 read, 3 to 5 write a PSN and the state (01, Engine requests); 7 is the joined read (02, wish 2).
 unfoldable pub readNumber : ℕ → NumberFound
 readNumber n =
     pick (eqb n 1) (Served number.ReadState)
@@ -35,7 +34,8 @@ readNumber n =
     (pick (eqb n 4) (Served (number.Write LastAcked))
     (pick (eqb n 5) (Served (number.Write Expected))
     (pick (eqb n 6) (Served number.ReadAll)
-    NotServed)))))
+    (pick (eqb n 7) (Served number.ReadJoined)
+    NotServed))))))
 
 -- The state of a code up to 6 (01, The context store). A larger code is no state (01, Numbers returned, 3).
 abbrev pub stateAt : ℕ → State
@@ -59,12 +59,13 @@ writeFound p n psn stateFound.OutOfRange = Wrong
 abbrev pub engineWriteOf : PsnField → QpNumber → ℕ → StateFound → EngineFound
 engineWriteOf p n psn s = pick (psnFits psn) (writeFound p n psn s) Wrong
 
--- A read has no use for PSN and state, and does not look at them (01, Engine requests).
+-- A read has no use for PSN and state, and does not look at them (01, Engine requests; 02, wish 2).
 abbrev pub engineOn : EngineNumber → QpNumber → ℕ → ℕ → EngineFound
 engineOn number.ReadState n psn code = OnRecord (engine.ReadState n)
 engineOn number.ReadNext n psn code = OnRecord (engine.ReadNext n)
 engineOn number.ReadAll n psn code = OnRecord (engine.ReadAll n)
 engineOn (number.Write p) n psn code = engineWriteOf p n psn (stateFrom code)
+engineOn number.ReadJoined n psn code = Joined n
 
 abbrev pub engineAt : EngineNumber → QpFound → ℕ → ℕ → EngineFound
 engineAt k (qpFound.Number n) psn code = engineOn k n psn code
@@ -82,11 +83,12 @@ numberFoundNumber NotServed = 2
 
 abbrev pub engineFoundNumber : EngineFound → ℕ
 engineFoundNumber (OnRecord r) = 0
+engineFoundNumber (Joined n) = 0
 engineFoundNumber Wrong = 3
 
--- The requests are numbered 1 to 6 (01, Engine requests).
+-- The requests are numbered 1 to 7 (01, Engine requests; 02, wish 2).
 unfoldable pub isNumbered : ℕ → Bool
-isNumbered n = within 1 6 n
+isNumbered n = within 1 7 n
 
 -- A request is right if its index is below the count of queue pairs and, in a write, PSN and state are not past their ranges
 -- (01, Engine requests; Numbers returned, 3).
@@ -95,13 +97,15 @@ fieldsRight number.ReadState psn code = true
 fieldsRight number.ReadNext psn code = true
 fieldsRight number.ReadAll psn code = true
 fieldsRight (number.Write p) psn code = both (leb psn 0xffffff) (leb code 6)
+fieldsRight number.ReadJoined psn code = true
 
 unfoldable pub engineRight : Logs → EngineNumber → ℕ → ℕ → ℕ → Bool
 engineRight g k index psn code = both (ltb index (countOf g kind.Qp)) (fieldsRight k psn code)
 
 -- What a request asks for on queue pair n.
-abbrev pub requestOn : EngineNumber → ℕ → ℕ → ℕ → EngineRequest
-requestOn number.ReadState n psn code = engine.ReadState (record { 0 = n })
-requestOn number.ReadNext n psn code = engine.ReadNext (record { 0 = n })
-requestOn number.ReadAll n psn code = engine.ReadAll (record { 0 = n })
-requestOn (number.Write p) n psn code = engine.Write p (stateAt code) (record { 0 = n }) psn
+abbrev pub requestOn : EngineNumber → ℕ → ℕ → ℕ → EngineFound
+requestOn number.ReadState n psn code = OnRecord (engine.ReadState (record { 0 = n }))
+requestOn number.ReadNext n psn code = OnRecord (engine.ReadNext (record { 0 = n }))
+requestOn number.ReadAll n psn code = OnRecord (engine.ReadAll (record { 0 = n }))
+requestOn (number.Write p) n psn code = OnRecord (engine.Write p (stateAt code) (record { 0 = n }) psn)
+requestOn number.ReadJoined n psn code = Joined (record { 0 = n })

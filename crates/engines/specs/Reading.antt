@@ -18,7 +18,7 @@ use Rattle.engines.specs.declared.EngineNumber.the-variants as number
 use Rattle.engines.specs.declared.NumberFound.{NumberFound}
 use Rattle.engines.specs.declared.StateFound.the-variants.{OutOfRange}
 use Rattle.engines.specs.declared.EngineFound.{EngineFound}
-use Rattle.engines.specs.declared.EngineFound.the-variants.{OnRecord, Wrong}
+use Rattle.engines.specs.declared.EngineFound.the-variants.{Wrong}
 use Rattle.engines.specs.Engines.{readNumber, isNumbered, numberFoundNumber, stateFrom, stateAt, writeFound, engineOn}
 use Rattle.engines.specs.Engines.{engineAt, readEngine}
 use Rattle.engines.specs.Engines.{fieldsRight, engineRight, requestOn, engineFoundNumber}
@@ -27,7 +27,7 @@ use Rattle.engines.specs.Engines.{fieldsRight, engineRight, requestOn, e
 none-below : (n k : ℕ) → k < n → eqb n k ≡ false
 none-below n k h = ne-eqb n k (λ e. omega arith)
 
--- the number of a request number is 0 if it is one of 1 to 6, and else 2
+-- the number of a request number is 0 if it is one of 1 to 7, and else 2
 pub number-number : (n : ℕ) → numberFoundNumber (readNumber n) ≡ pick (isNumbered n) 0 2
 unfolding readNumber isNumbered
 number-number zero = refl
@@ -37,9 +37,10 @@ number-number (suc (suc (suc zero))) = refl
 number-number (suc (suc (suc (suc zero)))) = refl
 number-number (suc (suc (suc (suc (suc zero))))) = refl
 number-number (suc (suc (suc (suc (suc (suc zero)))))) = refl
-number-number (suc (suc (suc (suc (suc (suc (suc n))))))) = above (suc (suc (suc (suc (suc (suc (suc n))))))) (omega arith)
+number-number (suc (suc (suc (suc (suc (suc (suc zero))))))) = refl
+number-number (suc (suc (suc (suc (suc (suc (suc (suc n)))))))) = above (suc (suc (suc (suc (suc (suc (suc (suc n)))))))) (omega arith)
   where
-    above : (m : ℕ) → 6 < m → numberFoundNumber (readNumber m) ≡ pick (isNumbered m) 0 2
+    above : (m : ℕ) → 7 < m → numberFoundNumber (readNumber m) ≡ pick (isNumbered m) 0 2
     above m h =
         rw (
           none-below m 1 (omega arith),
@@ -48,7 +49,8 @@ number-number (suc (suc (suc (suc (suc (suc (suc n))))))) = above (suc (suc (suc
           none-below m 4 (omega arith),
           none-below m 5 (omega arith),
           none-below m 6 (omega arith),
-          within-no 1 6 m (inr h),
+          none-below m 7 (omega arith),
+          within-no 1 7 m (inr h),
         )
 
 -- an answer that is what the definition gives has its number
@@ -79,18 +81,27 @@ state-code (suc (suc (suc (suc (suc (suc zero)))))) h = refl
 state-code (suc (suc (suc (suc (suc (suc (suc n))))))) h = absurd (omega arith)
 
 engine-is : (k : EngineNumber) (n psn code : ℕ)
-    → engineOn k (record { 0 = n }) psn code ≡ pick (fieldsRight k psn code) (OnRecord (requestOn k n psn code)) Wrong
+    → engineOn k (record { 0 = n }) psn code ≡ pick (fieldsRight k psn code) (requestOn k n psn code) Wrong
 unfolding stateFrom
 engine-is number.ReadState n psn code = refl
 engine-is number.ReadNext n psn code = refl
 engine-is number.ReadAll n psn code = refl
+engine-is number.ReadJoined n psn code = refl
 engine-is (number.Write p) n psn code =
     ap (λ (f : EngineFound). pick (leb psn 0xffffff) f Wrong) (pick-ap (writeFound p (record { 0 = n }) psn) (leb code 6) _ _)
     ∙ pick-both (leb psn 0xffffff) (leb code 6) _ _
 
+-- what is asked for has no number
+asked-number : (k : EngineNumber) (n psn code : ℕ) → engineFoundNumber (requestOn k n psn code) ≡ 0
+asked-number number.ReadState n psn code = refl
+asked-number number.ReadNext n psn code = refl
+asked-number number.ReadAll n psn code = refl
+asked-number (number.Write p) n psn code = refl
+asked-number number.ReadJoined n psn code = refl
+
 module _ (g : Logs) (k : EngineNumber) (index psn code : ℕ) where
   -- the whole of reading: the request on that number if index, PSN and state are right, and else nothing (01, Engine requests)
-  pub engine-read : readEngine g k index psn code ≡ pick (engineRight g k index psn code) (OnRecord (requestOn k index psn code)) Wrong
+  pub engine-read : readEngine g k index psn code ≡ pick (engineRight g k index psn code) (requestOn k index psn code) Wrong
   unfolding readEngine engineRight
   engine-read =
       pick-ap (λ (f : QpFound). engineAt k f psn code) (ltb index (countOf g kind.Qp)) _ _
@@ -99,19 +110,21 @@ module _ (g : Logs) (k : EngineNumber) (index psn code : ℕ) where
 
   -- its number is 0 if they are right, and else 3
   pub engine-number : engineFoundNumber (readEngine g k index psn code) ≡ pick (engineRight g k index psn code) 0 3
-  engine-number = ap engineFoundNumber engine-read ∙ pick-ap engineFoundNumber (engineRight g k index psn code) _ _
+  engine-number =
+      ap engineFoundNumber engine-read ∙ pick-ap engineFoundNumber (engineRight g k index psn code) _ _
+      ∙ ap (λ (n : ℕ). pick (engineRight g k index psn code) n 3) (asked-number k index psn code)
 
   -- what is right is found
-  pub engine-found : engineRight g k index psn code ≡ true → readEngine g k index psn code ≡ OnRecord (requestOn k index psn code)
+  pub engine-found : engineRight g k index psn code ≡ true → readEngine g k index psn code ≡ requestOn k index psn code
   engine-found h = engine-read ∙ sym (pick-yes (engineRight g k index psn code) _ _ _ h refl)
 
   -- what is found is right, and is that request on that number
   pub engine-right : (f : EngineFound) → readEngine g k index psn code ≡ f → ¬ (f ≡ Wrong)
-      → (engineRight g k index psn code ≡ true) × (f ≡ OnRecord (requestOn k index psn code))
+      → (engineRight g k index psn code ≡ true) × (f ≡ requestOn k index psn code)
   engine-right f e some =
       by-pick
       (λ (x : EngineFound). readEngine g k index psn code ≡ x
-      → (engineRight g k index psn code ≡ true) × (f ≡ OnRecord (requestOn k index psn code)))
+      → (engineRight g k index psn code ≡ true) × (f ≡ requestOn k index psn code))
       (engineRight g k index psn code) _ Wrong
       (λ h i. (h, sym e ∙ i))
       (λ h i. absurd (some (sym e ∙ i)))

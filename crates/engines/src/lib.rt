@@ -17,6 +17,7 @@ pub enum EngineNumber {
     ReadNext,
     ReadAll,
     Write(PsnField),
+    ReadJoined,
 }
 
 pub enum NumberFound {
@@ -29,8 +30,11 @@ pub enum StateFound {
     OutOfRange,
 }
 
+// A request that is whole as it was asked for; the joined read of a queue pair, whose other records
+// the submission finds named; or neither.
 pub enum EngineFound {
     OnRecord(EngineRequest),
+    Joined(QpNumber),
     Wrong,
 }
 
@@ -44,6 +48,7 @@ pub fn read_number(number: u32) -> NumberFound
         4 => NumberFound::Served(EngineNumber::Write(PsnField::LastAcked)),
         5 => NumberFound::Served(EngineNumber::Write(PsnField::Expected)),
         6 => NumberFound::Served(EngineNumber::ReadAll),
+        7 => NumberFound::Served(EngineNumber::ReadJoined),
         _ => NumberFound::NotServed,
     }
 }
@@ -83,6 +88,7 @@ fn engine_on(number: EngineNumber, n: QpNumber, psn: u32, code: u8) -> EngineFou
         EngineNumber::ReadNext => EngineFound::OnRecord(EngineRequest::ReadNext(n)),
         EngineNumber::ReadAll => EngineFound::OnRecord(EngineRequest::ReadAll(n)),
         EngineNumber::Write(which) => engine_write(which, n, psn, read_state(code)),
+        EngineNumber::ReadJoined => EngineFound::Joined(n),
     }
 }
 

@@ -16,7 +16,7 @@ pub const RESET: u8 = 4;
 // What is not as usual in a call. The numbers are of bytes lent.
 pub const USUAL: u8 = 0;
 
-pub const ROOM_2047: u8 = 1;
+pub const ROOM_3071: u8 = 1;
 
 pub const STORE_2687: u8 = 2;
 
@@ -28,18 +28,25 @@ pub const MAILBOX_163: u8 = 5;
 
 pub const BUFFER_255: u8 = 6;
 
-// In the command register: go is 0, or E is 1.
-pub const NO_GO: u8 = 7;
+pub const BUFFER_383: u8 = 7;
 
-pub const EVENT: u8 = 8;
+// In the command register: go is 0, or E is 1.
+pub const NO_GO: u8 = 8;
+
+pub const EVENT: u8 = 9;
 
 // In the mailbox: the service type 2, or 2^15 queue pairs.
-pub const TYPE_2: u8 = 9;
+pub const TYPE_2: u8 = 10;
 
-pub const LOG_15: u8 = 10;
+pub const LOG_15: u8 = 11;
+
+// And the names of a queue that the store has not: in word 70h CQ 4, in word 10h EQ 2.
+pub const CQ_4: u8 = 12;
+
+pub const EQ_2: u8 = 13;
 
 // The state handed in is closed.
-pub const CLOSED_STATE: u8 = 11;
+pub const CLOSED_STATE: u8 = 14;
 
 // One call. The fields have the types that the operations take.
 pub struct Call {
@@ -193,7 +200,7 @@ pub fn open() -> Script {
     closed().then(command(0x07, 0))
 }
 
-// A command in slot 0, with its 16 bursts moved and collected.
+// A command on a queue pair in slot 0, with its 16 bursts moved and collected.
 fn whole(before: Script, op: u16, index: u32) -> Script {
     before
         .then(command(op, index))

@@ -34,12 +34,12 @@ const WORD_84: usize = 7 * 256 + 0x84;
 
 // The bytes of each memory that a call is lent.
 fn room_len(but: u8) -> usize
-    ensures { λ r. ⌜ r ≤ 2048 ⌝ }
+    ensures { λ r. ⌜ r ≤ 3072 ⌝ }
 {
-    if but == calls::ROOM_2047 {
-        return 2047;
+    if but == calls::ROOM_3071 {
+        return 3071;
     }
-    2048
+    3072
 }
 
 fn store_len(but: u8) -> usize
@@ -55,12 +55,15 @@ fn store_len(but: u8) -> usize
 }
 
 fn out_len(but: u8) -> usize
-    ensures { λ r. ⌜ r ≤ 256 ⌝ }
+    ensures { λ r. ⌜ r ≤ 384 ⌝ }
 {
     if but == calls::BUFFER_255 {
         return 255;
     }
-    256
+    if but == calls::BUFFER_383 {
+        return 383;
+    }
+    384
 }
 
 // The slot of an acceptance.
@@ -102,16 +105,25 @@ fn either(but: u8, which: u8, other: u32, usual: u32) -> u32 {
     usual
 }
 
-// One mailbox for all commands: the logarithms that INIT_HCA reads, each the low byte of a word, a
-// type, P12's word 84h, and word 2Ch 0 for CQ 0.
-fn write_mailbox(bytes: &mut [u8], but: u8)
+// The logarithms that INIT_HCA reads, each the low byte of a word.
+fn write_counts(bytes: &mut [u8], but: u8)
     requires { ⌜ 164 ≤ length (now bytes) ⌝ }
 {
-    words::write_be32(bytes, 0x00, either(but, calls::TYPE_2, 2 << 16, 0));
     words::write_be32(bytes, 0x0c, either(but, calls::LOG_15, 15, 3));
     words::write_be32(bytes, 0x14, 2);
     words::write_be32(bytes, 0x1c, 1);
     words::write_be32(bytes, 0x34, 2);
+}
+
+// One mailbox for all commands: the counts of INIT_HCA, a type, P12's word 84h, word 2Ch 0 for CQ 0,
+// and the names in words 10h and 70h.
+fn write_mailbox(bytes: &mut [u8], but: u8)
+    requires { ⌜ 164 ≤ length (now bytes) ⌝ }
+{
+    write_counts(bytes, but);
+    words::write_be32(bytes, 0x00, either(but, calls::TYPE_2, 2 << 16, 0));
+    words::write_be32(bytes, 0x10, either(but, calls::EQ_2, 2, 0));
+    words::write_be32(bytes, 0x70, either(but, calls::CQ_4, 4, 0));
     words::write_be32(bytes, 0x84, 0x07000010);
 }
 
@@ -223,7 +235,7 @@ fn command(hca: Hca, row: [Slot; 9], store: &mut [u8], room: &mut [u8], c: Call)
 }
 
 fn collect(hca: Hca, row: [Slot; 9], store: &[u8], room: &[u8], c: Call) -> SubmittedFront {
-    let mut out = [0u8; 256];
+    let mut out = [0u8; 384];
     let n = out_len(c.but);
     collected(
         hca,
@@ -267,7 +279,7 @@ fn perform(hca: Hca, row: [Slot; 9], store: &mut [u8], room: &mut [u8], c: Call)
 
 // Makes the calls of an example, each with what it is lent.
 fn perform_all(script: Script, store: &mut [u8], room: &mut [u8]) -> SubmittedFront
-    requires { ⌜ (2689 ≤ length (now store)) × (2048 ≤ length (now room)) ⌝ }
+    requires { ⌜ (2689 ≤ length (now store)) × (3072 ≤ length (now room)) ⌝ }
 {
     let mut device = closed();
     for i in 0..script.len() {
@@ -298,7 +310,7 @@ fn end_of(last: SubmitReply, word_84: u32) -> Found {
 
 pub fn run(script: Script) -> Found {
     let mut store = [0u8; 2689];
-    let mut room = [0u8; 2048];
+    let mut room = [0u8; 3072];
     let end = perform_all(script, &mut store, &mut room);
     let last = end.reply;
     end_of(last, words::read_be32(&store, WORD_84))

@@ -1,6 +1,7 @@
 // Runs on a device what document 01's list of examples gives to a program, P12, and each row of the
-// table of numbers returned, in its order, and prints for each what the device answers and what 01
-// gives. The number is the answer of the example's last call.
+// table of numbers returned, in its order, with those of the joined read (document 02, wish 2), and
+// prints for each what the device answers and what the documents give. The number is the answer of
+// the example's last call.
 mod calls;
 mod device;
 
@@ -155,8 +156,8 @@ fn lengths() {
     while_open(b"row of seven slots", read(1, 0).row_of(7), 0x83);
     while_open(b"row of nine slots", read(1, 0).row_of(9), 0x83);
     while_open(
-        b"room of 2047 bytes",
-        read(1, 0).but(calls::ROOM_2047),
+        b"room of 3071 bytes",
+        read(1, 0).but(calls::ROOM_3071),
         0x83,
     );
     while_open(
@@ -206,6 +207,18 @@ fn slot_numbers() {
             .then(collect(0).but(calls::BUFFER_255)),
         0x83,
     );
+    check(
+        b"collect of 384 bytes into 383",
+        open().then(read(7, 0))
+            .repeat(step(0), 24)
+            .then(collect(0).but(calls::BUFFER_383)),
+        0x83,
+    );
+    check(
+        b"collect of 384 bytes into 384",
+        open().then(read(7, 0)).repeat(step(0), 24).then(collect(0)),
+        0,
+    );
 }
 
 // Document 01's number for what writing a command register answers.
@@ -238,7 +251,8 @@ fn registers() {
     while_open(b"HCR with E 1", command(0x31, 0).but(calls::EVENT), 3);
     check_number(b"op 0x1000 in writing the HCR", write_op(0x1000), 3);
     while_open(b"op 0x23", command(0x23, 0), 2);
-    while_open(b"request 7", read(7, 0), 2);
+    while_open(b"request 0", read(0, 0), 2);
+    while_open(b"request 8", read(8, 0), 2);
 }
 
 fn system_states() {
@@ -319,6 +333,65 @@ fn holds() {
     );
 }
 
+// The queue pair's hold, then the completion queue's name and hold, then the event queue's.
+fn joined() {
+    while_open(b"request 7 on QP 7", read(7, 7), 0);
+    while_open(b"request 7 on QP 8", read(7, 8), 3);
+    check(
+        b"request 7 on a QP that is written",
+        ready().then(write(3, 7, 0, RTR)).then(read(7, 7)),
+        0x81,
+    );
+    check(
+        b"request 7 on a QP that names CQ 4",
+        open().then(command(0x19, 0).but(calls::CQ_4))
+            .repeat(step(0), 16)
+            .then(read(7, 0)),
+        3,
+    );
+    check(
+        b"request 7 on a QP whose CQ is written",
+        open().then(command(0x16, 0)).then(read(7, 0)),
+        0x81,
+    );
+    check(
+        b"request 7 on a QP whose CQ names EQ 2",
+        open().then(command(0x16, 0).but(calls::EQ_2))
+            .repeat(step(0), 4)
+            .then(read(7, 0)),
+        3,
+    );
+    check(
+        b"request 7 on a QP whose EQ is written",
+        open().then(command(0x13, 0)).then(read(7, 0)),
+        0x81,
+    );
+}
+
+// A request 7 holds all its three records: CQ 0 and EQ 0 are named by records that are all zero.
+fn joined_holds() {
+    check(
+        b"0x19 beside request 7 on that QP",
+        open().then(read(7, 0)).then(command(0x19, 0)),
+        0x81,
+    );
+    check(
+        b"SW2HW beside request 7 that names that CQ",
+        open().then(read(7, 0)).then(command(0x16, 0)),
+        0x81,
+    );
+    check(
+        b"SW2HW beside request 7 that names that EQ",
+        open().then(read(7, 0)).then(command(0x13, 0)),
+        0x81,
+    );
+    check(
+        b"SW2HW beside request 7 that names another EQ",
+        open().then(read(7, 0)).then(command(0x13, 1)),
+        0,
+    );
+}
+
 fn denials() {
     while_open(b"0x1a in RESET", command(0x1a, 0), 0x85);
     while_open(b"request 3 in RESET", write(3, 0, 0, RTS), 0x85);
@@ -340,5 +413,7 @@ fn main() {
     parameters();
     mailboxes();
     holds();
+    joined();
+    joined_holds();
     denials();
 }

@@ -1,4 +1,5 @@
 // The scan of the row's slots against a request's records.
+use context::Record;
 use request_table::Records;
 use requests::Request;
 use slots::Slot;
@@ -8,7 +9,7 @@ ghost use Prim.Native.Nat.{_≤_};
 ghost use lib.ListN.{drop};
 ghost use Rattle.request_table.specs.Records.{listOf};
 ghost use Rattle.rows.specs.Rows.{anySlot};
-ghost use Rattle.holds.specs.Holds.{clashSlot, heldAgainst};
+ghost use Rattle.holds.specs.Holds.{clashSlot, heldAgainst, readHeld};
 
 // Whether a running request of the slots from `start` on holds one of these records against one
 // that writes them or not.
@@ -43,4 +44,11 @@ pub fn held(row: [Slot; 8], request: Request) -> bool
         record_lists::records_of(request),
         request_kinds::writes(request),
     )
+}
+
+// Whether a running request of the row holds this record against a reader.
+pub fn read_held(row: [Slot; 8], rec: Record) -> bool
+    ensures { λ r. ⌜ r ≡ readHeld row rec ⌝ }
+{
+    held_from(row, 0, Records::One(rec), false)
 }

@@ -34,3 +34,7 @@ clashSlot w Xs s = clashStatus w Xs (s .status)
 -- a request of the row holds a record against this one (01, Numbers returned, the second 0x81)
 unfoldable pub heldAgainst : List Slot → Request → Bool
 heldAgainst row q = anySlot (clashSlot (writesOf q) (recordsOf q)) row
+
+-- a request of the row holds this record against a reader: one that writes it (02, wish 2)
+unfoldable pub readHeld : List Slot → Record → Bool
+readHeld row X = anySlot (clashSlot false (X ∷ [])) row

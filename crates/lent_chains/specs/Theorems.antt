@@ -1,7 +1,7 @@
 -- THE THEOREMS about chains of calls over a lent row. They assume nothing; the statements are those of `chains`, of this form of the
 -- operations.
 use Rattle.chains.specs.Links.{commandPromised, enginePromised, stepPromised, collectPromised, resetPromised}
-use Rattle.chains.specs.Claims.{Promises, Fixed, Refusals, States, Fronts, Serial, Zeroed}
+use Rattle.chains.specs.Claims.{Promises, Fixed, Refusals, States, Fronts, Serial, Holding, Zeroed}
 use Rattle.chains.specs.Theorems.{every-form}
 use Rattle.lent_chains.specs.Links.{LentLink, commandLink, engineLink, stepLink, collectLink, resetLink}
 
@@ -32,6 +32,10 @@ fronts = every-form LentLink promises .fronts
 -- book's
 pub demand3 : Serial LentLink
 demand3 = every-form LentLink promises .serial
+
+-- while a joined read runs, the names in its slot are those in the store, and those that the book finds at its place
+pub running : Holding LentLink
+running = every-form LentLink promises .holding
 
 -- the book starts with records that are all zero
 pub zeroed : Zeroed LentLink

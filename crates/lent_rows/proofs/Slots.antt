@@ -30,7 +30,7 @@ freeSlot = record { status = Free }
 
 -- how many bytes a slot takes
 abbrev pub slot-size : ℕ
-slot-size = 20
+slot-size = 24
 
 abbrev pub slot-vals : Slot → List Val
 slot-vals d = T′.lowered d ∷ []

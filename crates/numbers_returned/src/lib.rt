@@ -18,6 +18,7 @@ fn denial_number(cause: Denial) -> u8
     match cause {
         Denial::Edge => 0x85,
         Denial::Owner => 0x85,
+        Denial::Name => 3,
     }
 }
 

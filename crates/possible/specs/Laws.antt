@@ -13,6 +13,7 @@ use Rattle.context.specs.declared.Logs.{Logs}
 use Rattle.context.specs.declared.Record.{Record}
 use Rattle.request_table.specs.Records.{recordOf, recordsOf, writesOf, isCommand, allRecords, psnHolds, numbersHold}
 use Rattle.request_table.specs.Listed.{In, all-in}
+use Rattle.request_table.specs.Laws.{own-in}
 use Rattle.burst_table.specs.Bursts.{totalOf}
 use Rattle.words.specs.Tests.{neither-left, neither-right}
 use Rattle.slots.specs.Slots.{Held, slot, advanced, isOccupied, hasCommand}
@@ -95,7 +96,7 @@ unfolding numbersHold
 numbers-right g q e =
     let all : allRecords g (recordsOf q) ≡ true = both-left (allRecords g (recordsOf q)) (psnHolds q) e in
     record {
-      valid = all-in g (recordOf q) (recordsOf q) all (inl refl);
+      valid = all-in g (recordOf q) (recordsOf q) all (own-in q);
       all = all;
       psn = both-right (allRecords g (recordsOf q)) (psnHolds q) e;
     }

@@ -1,14 +1,18 @@
 -- The laws of the memory: a write changes one burst of one record, a read copies one burst, and an initialisation makes every record
 -- zero; nothing else changes.
 use mathlib.Core.Path.{_≡_, refl, sym, _∙_, ap, ap₂}
-use mathlib.Core.Bool.{true}
-use mathlib.Core.List.{List, [], _∷_, append-nil}
+use mathlib.Core.Bool.{Bool, true, false}
+use mathlib.Core.List.{List, [], _∷_, _++_}
 use mathlib.Core.Logic.{inl, inr}
-use Prim.Native.Nat.{ℕ, _+_, _*_, _≤_, _<_}
+use Prim.Native.Nat.{ℕ, _+_, _-_, _*_, _/_, _≤_, _<_}
 use native.Mathlib.Decide.{decLt, decLe}
 use native.Mathlib.Omega.{arith}
+use borrow.Author.Tests.{ltb-true, ltb-false}
+use lib.Dec.{ltb}
 use lib.ListN.{length, getD, take, replicate, length-append, length-take, length-drop, length-replicate, getD-replicate}
 use lib.Seq.{ext-getD, getD-take}
+use Rattle.words.specs.Choice.{pick, both-left, both-right}
+use Rattle.words.specs.Tails.{part-left, part-right}
 use Rattle.words.specs.Parts.{part, splice, length-part, getD-part, length-splice, splice-in, splice-below, splice-above, part-part}
 use Rattle.context.specs.Layout.{isRecord, recordAt, recordSize, bytesOf, inUse}
 use Rattle.context.specs.Records.{record-inside, records-apart}
@@ -16,11 +20,11 @@ use Rattle.context.specs.Tables.{Apart}
 use Rattle.context.specs.declared.Logs.{Logs}
 use Rattle.context.specs.declared.Record.{Record}
 use Rattle.requests.specs.declared.Request.{Request}
-use Rattle.request_table.specs.Records.{recordOf, recordsOf}
+use Rattle.request_table.specs.Records.{recordOf, recordsOf, allRecords, writesOf}
 use Rattle.burst_table.specs.Sizes.{burstSize, slotCount, roomSize}
 use Rattle.burst_table.specs.Bursts.{joinedSize, burstsOf, totalOf, offsetOf}
 use Rattle.burst_table.specs.Touched.{fit-at}
-use Rattle.burst_table.specs.Laws.{bursts-joined, offset-burst, offset-small, offset-room}
+use Rattle.burst_table.specs.Laws.{size-bursts, bursts-joined, offset-burst, offset-small, offset-room}
 use Rattle.byte_rule.specs.Bytes.{byteOf}
 use Rattle.bursts.specs.Moves.{writtenPart, writeAt}
 use Rattle.bursts.specs.Leaves.{length-writtenPart}
@@ -28,7 +32,7 @@ use Rattle.bursts.specs.Bursts.{burst}
 use Rattle.bursts.specs.Copies.{copy}
 use Rattle.bursts.specs.Room.{roomOf, roomCopied, own-copied}
 use Rattle.bursts.specs.Store.{length-writeAt, writeAt-apart, writeAt-record}
-use Rattle.records.specs.Memory.{Memory, memory, recordIn, joinedIn, AllRecords, Fits}
+use Rattle.records.specs.Memory.{Memory, memory, recordIn, joinedIn, AllRecords, Fits, placeIn}
 use Rattle.records.specs.Memory.{burstPlace, written, readOut, zeroed, InBurst, Behind}
 
 -- ---- records as they stand
@@ -48,12 +52,11 @@ length-joinedIn g m fits (X ∷ Xs) all =
     length-append (recordIn g m X) (joinedIn g m Xs)
     ∙ ap₂ (λ (i j : ℕ). i + j) (length-recordIn g m fits X (all .0)) (length-joinedIn g m fits Xs (all .1))
 
-pub joined-one : (g : Logs) (m : Memory) (X : Record) → joinedIn g m (X ∷ []) ≡ recordIn g m X
-joined-one g m X = append-nil (recordIn g m X)
-
--- a request's records are those of the memory where its record is
-pub all-records : (g : Logs) (q : Request) → isRecord g (recordOf q) ≡ true → AllRecords g (recordsOf q)
-all-records g q valid = (valid, tt)
+-- the memory has all of some records, as a test and as a statement of each
+pub all-records : (g : Logs) (Xs : List Record) → allRecords g Xs ≡ true → AllRecords g Xs
+all-records g [] e = tt
+all-records g (X ∷ Xs) e =
+    (both-left (isRecord g X) (allRecords g Xs) e, all-records g Xs (both-right (isRecord g X) (allRecords g Xs) e))
 
 part-most : (at k : ℕ) (s : List ℕ) → length (part at k s) ≤ k
 unfolding part
@@ -77,8 +80,8 @@ record-front g n s X h valid = part-front n (recordAt g X) (recordSize X) s (ome
 
 -- ---- one burst of a write
 
-module _ (g : Logs) (m : Memory) (q : Request) (mail : List ℕ) (b : ℕ) (fits : Fits g m) (valid : isRecord g (recordOf q) ≡ true)
-    (more : b < totalOf q) where
+module _ (g : Logs) (m : Memory) (q : Request) (mail : List ℕ) (b : ℕ) (fits : Fits g m) (writes : writesOf q ≡ true)
+    (valid : isRecord g (recordOf q) ≡ true) (more : b < totalOf q) where
   start : ℕ
   start = recordAt g (recordOf q)
 
@@ -88,7 +91,7 @@ module _ (g : Logs) (m : Memory) (q : Request) (mail : List ℕ) (b : ℕ) (fits
 
   burst-fits : burstPlace g q b + burstSize ≤ length (m .store)
   unfolding burstPlace start
-  burst-fits = omega (arith, own-fits, offset-small q b more)
+  burst-fits = omega (arith, own-fits, offset-small q writes b more)
 
   -- the request's own record has that burst changed
   pub own-written : recordIn g (written g m q mail b) (recordOf q)
@@ -98,7 +101,7 @@ module _ (g : Logs) (m : Memory) (q : Request) (mail : List ℕ) (b : ℕ) (fits
       ap (λ (n : ℕ). part (recordAt g (recordOf q)) (recordSize (recordOf q)) (writeAt q mail (recordAt g (recordOf q) + n) n (m .store)))
       (offset-burst q b)
       ∙ writeAt-record q mail (recordAt g (recordOf q)) (recordSize (recordOf q)) (getD (burstsOf q) b 0) (m .store) own-fits
-      (omega (arith, offset-small q b more))
+      (omega (arith, offset-small q writes b more))
 
   -- every other record stays
   pub other-written : (X : Record) → isRecord g X ≡ true → ¬ (recordOf q ≡ X) → recordIn g (written g m q mail b) X ≡ recordIn g m X
@@ -109,7 +112,7 @@ module _ (g : Logs) (m : Memory) (q : Request) (mail : List ℕ) (b : ℕ) (fits
     where
       side : Apart (recordAt g (recordOf q)) (recordSize (recordOf q)) (recordAt g X) (recordSize X)
           → Apart (recordAt g (recordOf q) + offsetOf q b) burstSize (recordAt g X) (recordSize X)
-      side (inl y) = inl (omega (arith, offset-small q b more))
+      side (inl y) = inl (omega (arith, offset-small q writes b more))
       side (inr y) = inr (omega arith)
 
   pub length-written : length (written g m q mail b .store) ≡ length (m .store)
@@ -145,7 +148,7 @@ module _ (g : Logs) (m : Memory) (q : Request) (mail : List ℕ) (b : ℕ) (fits
   -- no byte behind the records lies in the burst
   pub behind-burst : (i : ℕ) → Behind g i → ¬ InBurst g q b i
   unfolding Behind InBurst burstPlace
-  behind-burst i h y = omega (arith, record-inside g (recordOf q) valid, offset-small q b more)
+  behind-burst i h y = omega (arith, record-inside g (recordOf q) valid, offset-small q writes b more)
 
   pub behind-written : (i : ℕ) → Behind g i → getD (written g m q mail b .store) i 0 ≡ getD (m .store) i 0
   behind-written i h = outside-written i (behind-burst i h)
@@ -159,6 +162,71 @@ in-burst? g q b i = go (decLe (burstPlace g q b) i) (decLt i (burstPlace g q b +
     go (yes x) (yes y) = yes (x, y)
     go (yes x) (no y) = no (λ z. y (z .1))
     go (no x) y = no (λ z. x (z .0))
+
+-- ---- one burst of some records, one behind the other: it lies in one of them
+
+module _ (g : Logs) where
+  -- burst j lies in the first record, or behind it
+  in-first : (X : Record) (j : ℕ) → burstSize * j < recordSize X → burstSize * j + burstSize ≤ recordSize X
+  in-first X j h = omega (arith, size-bursts X)
+
+  behind-first : (X : Record) (j : ℕ) → recordSize X ≤ burstSize * j
+      → burstSize * j - recordSize X ≡ burstSize * (j - recordSize X / burstSize)
+  behind-first X j h = omega (arith, size-bursts X)
+
+  pub piece-inside : (Xs : List Record) (j : ℕ) → AllRecords g Xs → burstSize * j + burstSize ≤ joinedSize Xs
+      → placeIn g Xs (burstSize * j) + burstSize ≤ inUse g
+  unfolding placeIn
+  piece-inside [] j all l = absurd (omega arith)
+  piece-inside (X ∷ Xs) j all l = go (ltb (burstSize * j) (recordSize X)) refl (piece-inside Xs (j - recordSize X / burstSize) (all .1))
+    where
+      i : ℕ
+      i = j - recordSize X / burstSize
+
+      go : (b : Bool) → ltb (burstSize * j) (recordSize X) ≡ b
+          → (burstSize * i + burstSize ≤ joinedSize Xs → placeIn g Xs (burstSize * i) + burstSize ≤ inUse g)
+          → pick b (recordAt g X + burstSize * j) (placeIn g Xs (burstSize * j - recordSize X)) + burstSize ≤ inUse g
+      go true e more =
+          omega (arith, in-first X j (ltb-true (burstSize * j) (recordSize X) e), record-inside g X (all .0))
+      go false e more =
+          let k : recordSize X ≤ burstSize * j = ltb-false (burstSize * j) (recordSize X) e in
+          let s : burstSize * j - recordSize X ≡ burstSize * i = behind-first X j k in
+          rw s (more (omega (arith, s)))
+
+  module _ (m : Memory) (fits : Fits g m) where
+    pub piece : (Xs : List Record) (j : ℕ) → AllRecords g Xs → burstSize * j + burstSize ≤ joinedSize Xs
+        → part (burstSize * j) burstSize (joinedIn g m Xs) ≡ part (placeIn g Xs (burstSize * j)) burstSize (m .store)
+    unfolding placeIn recordIn bytesOf
+    piece [] j all l = absurd (omega arith)
+    piece (X ∷ Xs) j all l = go (ltb (burstSize * j) (recordSize X)) refl (piece Xs (j - recordSize X / burstSize) (all .1))
+      where
+        i : ℕ
+        i = j - recordSize X / burstSize
+
+        long : length (recordIn g m X) ≡ recordSize X
+        long = length-recordIn g m fits X (all .0)
+
+        here : burstSize * j + burstSize ≤ recordSize X
+            → part (burstSize * j) burstSize (recordIn g m X) ≡ part (recordAt g X + burstSize * j) burstSize (m .store)
+        here h =
+            part-part (recordAt g X) (recordSize X) (burstSize * j) burstSize (m .store) (record-fits g m fits X (all .0)) h
+
+        go : (b : Bool) → ltb (burstSize * j) (recordSize X) ≡ b
+            → (burstSize * i + burstSize ≤ joinedSize Xs
+            → part (burstSize * i) burstSize (joinedIn g m Xs) ≡ part (placeIn g Xs (burstSize * i)) burstSize (m .store))
+            → part (burstSize * j) burstSize (recordIn g m X ++ joinedIn g m Xs)
+            ≡ part (pick b (recordAt g X + burstSize * j) (placeIn g Xs (burstSize * j - recordSize X))) burstSize (m .store)
+        go true e more =
+            let h : burstSize * j + burstSize ≤ recordSize X = in-first X j (ltb-true (burstSize * j) (recordSize X) e) in
+            part-left (burstSize * j) burstSize (recordIn g m X) (joinedIn g m Xs) (omega (arith, long)) ∙ here h
+        go false e more =
+            let k : recordSize X ≤ burstSize * j = ltb-false (burstSize * j) (recordSize X) e in
+            let s : burstSize * j - recordSize X ≡ burstSize * i = behind-first X j k in
+            let t : burstSize * j ≡ length (recordIn g m X) + burstSize * i = omega (arith, s, long) in
+            let n : burstSize * i + burstSize ≤ joinedSize Xs = omega (arith, s) in
+            ap (λ (x : ℕ). part x burstSize (recordIn g m X ++ joinedIn g m Xs)) t
+            ∙ part-right (burstSize * i) burstSize (recordIn g m X) (joinedIn g m Xs)
+            ∙ more n ∙ ap (λ (x : ℕ). part (placeIn g Xs x) burstSize (m .store)) (sym s)
 
 -- ---- one burst of a read
 
@@ -186,13 +254,18 @@ module _ (g : Logs) (m : Memory) (q : Request) (b : ℕ) where
       ∙ ap (λ (n : ℕ). splice n (part n burstSize (joinedIn g m (recordsOf q))) (roomOf k room)) (offset-burst q b)
 
   -- where it stands in the memory
-  pub read-place : Fits g m → isRecord g (recordOf q) ≡ true → b < totalOf q
-      → readOut g m q b ≡ part (burstPlace g q b) burstSize (m .store)
-  unfolding readOut recordIn bytesOf burstPlace
-  read-place fits valid more =
-      ap (part (offsetOf q b) burstSize) (joined-one g m (recordOf q))
-      ∙ part-part (recordAt g (recordOf q)) (recordSize (recordOf q)) (offsetOf q b) burstSize (m .store)
-      (record-fits g m fits (recordOf q) valid) (offset-small q b more)
+  pub read-place : Fits g m → AllRecords g (recordsOf q) → b < totalOf q
+      → readOut g m q b ≡ part (placeIn g (recordsOf q) (offsetOf q b)) burstSize (m .store)
+  read-place fits all more =
+      read-burst
+      ∙ piece g m fits (recordsOf q) (getD (burstsOf q) b 0) all (fit-at (joinedSize (recordsOf q)) (burstsOf q) b (bursts-joined q) more)
+      ∙ ap (λ (n : ℕ). part (placeIn g (recordsOf q) n) burstSize (m .store)) (sym (offset-burst q b))
+
+  pub read-inside : AllRecords g (recordsOf q) → b < totalOf q → placeIn g (recordsOf q) (offsetOf q b) + burstSize ≤ inUse g
+  read-inside all more =
+      rw (offset-burst q b)
+      (piece-inside g (recordsOf q) (getD (burstsOf q) b 0) all
+      (fit-at (joinedSize (recordsOf q)) (burstsOf q) b (bursts-joined q) more))
 
 -- ---- an initialisation
 

@@ -3,10 +3,12 @@
 use mathlib.Core.Path.{_≡_}
 use mathlib.Core.Bool.{true}
 use mathlib.Core.List.{List, [], _∷_, _++_}
-use Prim.Native.Nat.{ℕ, _+_, _≤_, _<_}
+use Prim.Native.Nat.{ℕ, _+_, _-_, _≤_, _<_}
+use lib.Dec.{ltb}
 use lib.ListN.{length, replicate}
+use Rattle.words.specs.Choice.{pick}
 use Rattle.words.specs.Parts.{part, splice}
-use Rattle.context.specs.Layout.{isRecord, recordAt, bytesOf, inUse}
+use Rattle.context.specs.Layout.{isRecord, recordAt, recordSize, bytesOf, inUse}
 use Rattle.context.specs.declared.Logs.{Logs}
 use Rattle.context.specs.declared.Record.{Record}
 use Rattle.checks.specs.declared.Verdict.{Verdict}
@@ -42,7 +44,12 @@ AllRecords g (X ∷ Xs) = (isRecord g X ≡ true) × AllRecords g Xs
 abbrev pub Fits : Logs → Memory → Type 0
 Fits g m = inUse g ≤ length (m .store)
 
--- where burst b of a request stands in the memory
+-- where byte o of some records, one behind the other, stands in the memory
+unfoldable pub placeIn : Logs → List Record → ℕ → ℕ
+placeIn g [] o = 0
+placeIn g (X ∷ Xs) o = pick (ltb o (recordSize X)) (recordAt g X + o) (placeIn g Xs (o - recordSize X))
+
+-- where burst b of a write stands in the memory
 unfoldable pub burstPlace : Logs → Request → ℕ → ℕ
 burstPlace g q b = recordAt g (recordOf q) + offsetOf q b
 
@@ -63,7 +70,7 @@ permissionIn g m q = permissionOf q (recordIn g m (recordOf q))
 unfoldable pub zeroed : Logs → Memory → Memory
 zeroed g m = memory (splice 0 (replicate (inUse g) 0) (m .store))
 
--- byte i of the memory lies in burst b of the request's record
+-- byte i of the memory lies in burst b of a write's record
 unfoldable pub InBurst : Logs → Request → ℕ → ℕ → Type 0
 InBurst g q b i = (burstPlace g q b ≤ i) × (i < burstPlace g q b + burstSize)
 

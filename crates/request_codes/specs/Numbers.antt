@@ -1,4 +1,4 @@
--- The numbers by which a request is submitted (01, Commands; 01, Engine requests). Reading them gives the request's kind back.
+-- The numbers by which a request is submitted (01, Commands; 01, Engine requests; 02, wish 2). Reading them gives the request's kind back.
 use mathlib.Core.Path.{_≡_, refl}
 use Prim.Native.Nat.{ℕ}
 use Rattle.context.specs.Layout.{numberOf}
@@ -64,8 +64,9 @@ engineNumber (engine.ReadState n) = 1
 engineNumber (engine.ReadNext n) = 2
 engineNumber (engine.ReadAll n) = 6
 engineNumber (engine.Write p s n x) = writeNumber p
+engineNumber (engine.ReadJoined n c e) = 7
 
--- the index of the request's record
+-- the index of the request's record, of the joined read its queue pair's (02, wish 2)
 abbrev pub indexOf : Request → ℕ
 indexOf r = numberOf (recordOf r)
 
@@ -111,6 +112,7 @@ numberedAs (engine.ReadState n) = number.ReadState
 numberedAs (engine.ReadNext n) = number.ReadNext
 numberedAs (engine.ReadAll n) = number.ReadAll
 numberedAs (engine.Write p s n x) = number.Write p
+numberedAs (engine.ReadJoined n c e) = number.ReadJoined
 
 pub number-read : (e : EngineRequest) → readNumber (engineNumber e) ≡ numberFound.Served (numberedAs e)
 unfolding readNumber
@@ -120,3 +122,4 @@ number-read (engine.ReadAll n) = refl
 number-read (engine.Write psn.NextSend s n x) = refl
 number-read (engine.Write psn.LastAcked s n x) = refl
 number-read (engine.Write psn.Expected s n x) = refl
+number-read (engine.ReadJoined n c e) = refl

@@ -79,10 +79,11 @@ pub fn engine_number(engine: EngineRequest) -> u32
         EngineRequest::ReadNext(_) => 2,
         EngineRequest::ReadAll(_) => 6,
         EngineRequest::Write(field, _, _, _) => write_number(field),
+        EngineRequest::ReadJoined(_, _, _) => 7,
     }
 }
 
-// The index of a request's record in its table.
+// The index that a request is submitted with: of the joined read, its queue pair's.
 pub fn index_of(request: Request) -> u32
     ensures { λ r. ⌜ r ≡ indexOf request ⌝ }
 {

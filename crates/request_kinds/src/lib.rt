@@ -25,6 +25,7 @@ fn engine_writes(engine: EngineRequest) -> bool
         EngineRequest::ReadNext(_) => false,
         EngineRequest::ReadAll(_) => false,
         EngineRequest::Write(_, _, _, _) => true,
+        EngineRequest::ReadJoined(_, _, _) => false,
     }
 }
 

@@ -38,6 +38,7 @@ fn engine_record(engine: EngineRequest) -> Record
         EngineRequest::ReadNext(n) => Record::Qp(n),
         EngineRequest::ReadAll(n) => Record::Qp(n),
         EngineRequest::Write(_, _, n, _) => Record::Qp(n),
+        EngineRequest::ReadJoined(n, _, _) => Record::Qp(n),
     }
 }
 

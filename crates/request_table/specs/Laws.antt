@@ -1,6 +1,8 @@
 -- The laws of the request table: a request's record is no larger than a queue pair's, and its mailbox bytes no more than its record's.
 use mathlib.Core.Path.{_≡_, refl, sym}
-use mathlib.Core.Bool.{false, false≢true}
+use mathlib.Core.Bool.{true, false, false≢true}
+use mathlib.Core.List.{[], _∷_}
+use mathlib.Core.Logic.{inl}
 use Prim.Native.Nat.{_≤_}
 use native.Mathlib.Omega.{arith}
 use lib.Dec.{lit≤}
@@ -14,9 +16,11 @@ use Rattle.edges.specs.declared.Edge.the-variants.{SqeToRts, RtsToSqd, SqdToSqd
 use Rattle.requests.specs.declared.Owned.{Owned}
 use Rattle.requests.specs.declared.Owned.the-variants as owned
 use Rattle.requests.specs.declared.Command.the-variants as command
+use Rattle.requests.specs.declared.EngineRequest.the-variants as engine
 use Rattle.requests.specs.declared.Request.{Request}
 use Rattle.requests.specs.declared.Request.the-variants as request
-use Rattle.request_table.specs.Records.{recordOf, writesOf}
+use Rattle.request_table.specs.Records.{recordOf, recordsOf, writesOf}
+use Rattle.request_table.specs.Listed.{In}
 use Rattle.mailboxes.specs.Mailboxes.{storedOf, edgeNeed, needOf}
 use Rattle.request_table.specs.Sizes.{owned-size}
 
@@ -29,6 +33,24 @@ size-most (rec.Mpt n) = lit≤ tt
 
 pub record-small : (q : Request) → recordSize (recordOf q) ≤ sizeOf kind.Qp
 record-small q = size-most (recordOf q)
+
+-- a request that writes has one record
+pub write-one : (q : Request) → writesOf q ≡ true → recordsOf q ≡ recordOf q ∷ []
+write-one (request.Command c) w = refl
+write-one (request.Engine (engine.ReadState n)) w = absurd (false≢true w)
+write-one (request.Engine (engine.ReadNext n)) w = absurd (false≢true w)
+write-one (request.Engine (engine.ReadAll n)) w = absurd (false≢true w)
+write-one (request.Engine (engine.Write p s n psn)) w = refl
+write-one (request.Engine (engine.ReadJoined n c e)) w = absurd (false≢true w)
+
+-- the record that a request's index names is one of its records
+pub own-in : (q : Request) → In (recordOf q) (recordsOf q)
+own-in (request.Command c) = inl refl
+own-in (request.Engine (engine.ReadState n)) = inl refl
+own-in (request.Engine (engine.ReadNext n)) = inl refl
+own-in (request.Engine (engine.ReadAll n)) = inl refl
+own-in (request.Engine (engine.Write p s n psn)) = inl refl
+own-in (request.Engine (engine.ReadJoined n c e)) = inl refl
 
 -- what an edge and an owned record need of the mailbox
 pub edge-small : (e : Edge) → edgeNeed e ≤ 164

@@ -10,11 +10,18 @@ use Rattle.words.specs.Choice.{both, either, both-left, both-right}
 use Rattle.words.specs.Tests.{either-false, eqb-swap}
 use Rattle.context.specs.Layout.{isRecord, sameRecord, kindOf, kindCode, numberOf}
 use Rattle.context.specs.Records.{record-same, same-record}
+use Rattle.context.specs.declared.CqNumber.{CqNumber}
+use Rattle.context.specs.declared.EqNumber.{EqNumber}
 use Rattle.context.specs.declared.Logs.{Logs}
+use Rattle.context.specs.declared.QpNumber.{QpNumber}
 use Rattle.context.specs.declared.Record.{Record}
+use Rattle.context.specs.declared.Record.the-variants as rec
+use Rattle.requests.specs.declared.Command.{Command}
 use Rattle.requests.specs.declared.Request.{Request}
+use Rattle.requests.specs.declared.Request.the-variants as request
 use Rattle.request_table.specs.declared.Records.{Records}
-use Rattle.request_table.specs.Records.{listOf, holdsOf, recordsOf, noRecord, oneOf, allRecords, psnHolds, numbersHold}
+use Rattle.request_table.specs.declared.Records.the-variants as records
+use Rattle.request_table.specs.Records.{recordOf, listOf, holdsOf, recordsOf, noRecord, oneOf, allRecords, psnHolds, numbersHold}
 
 -- ---- one of some records
 
@@ -82,9 +89,21 @@ in-both X (Z ∷ Zs) Ys (inr k) h = either-second (oneOf Ys Z) (share Ys Zs) (in
 
 -- ---- the code's value for some records
 
-pub nth-first : (s : Records) (j : ℕ) → j < length (listOf s) → s .first ≡ getD (listOf s) j noRecord
-nth-first s j h = let k : j ≡ 0 = omega arith in rw k
+-- a command's one record
+pub command-holds : (q : Request) (d : Command) (X : Record) → q ≡ request.Command d → X ≡ recordOf q → records.One X ≡ holdsOf q
+command-holds q d X e f = ap records.One (f ∙ ap recordOf e) ∙ sym (ap holdsOf e)
 
+-- the j-th of one, and of three
+pub nth-first : (s : Records) (X : Record) (j : ℕ) → s ≡ records.One X → j < length (listOf s) → X ≡ getD (listOf s) j noRecord
+nth-first s X j e h =
+    let l : j < length (listOf (records.One X)) = rw e at h in
+    let k : j ≡ 0 = omega arith in rw (e, k)
+
+pub third-of : (n : QpNumber) (c : CqNumber) (e : EqNumber) (j : ℕ) → j < 3 → ¬ (j ≡ 0) → ¬ (j ≡ 1)
+    → rec.Eq e ≡ getD (listOf (records.Three n c e)) j noRecord
+third-of n c e j h x y = let k : j ≡ 2 = omega arith in rw k
+
+-- the code's tests of the records in turn
 pub one-told : (r b : Bool) → r ≡ b → r ≡ either b false
 one-told r b e = e ∙ sym (either-false b)
 

@@ -16,6 +16,7 @@ use Rattle.requests.specs.declared.EngineRequest.the-variants as engine
 use Rattle.requests.specs.declared.Request.{Request}
 use Rattle.requests.specs.declared.Request.the-variants as request
 use Rattle.request_table.specs.declared.Records.{Records}
+use Rattle.request_table.specs.declared.Records.the-variants as records
 
 -- the record that a command on an owner hands over, by its kind and index (01, Commands, SW2HW and HW2SW)
 abbrev pub ownedRecord : Owned → Record
@@ -39,19 +40,30 @@ engineRecord (engine.ReadState n) = rec.Qp n
 engineRecord (engine.ReadNext n) = rec.Qp n
 engineRecord (engine.ReadAll n) = rec.Qp n
 engineRecord (engine.Write p s n psn) = rec.Qp n
+engineRecord (engine.ReadJoined n c e) = rec.Qp n
 
 -- the record that a request's index names
 abbrev pub recordOf : Request → Record
 recordOf (request.Command c) = commandRecord c
 recordOf (request.Engine e) = engineRecord e
 
--- the code's value for some records, as a list: today of one
+-- the code's value for some records, as a list: of one, or of three
 abbrev pub listOf : Records → List Record
-listOf s = s .first ∷ []
+listOf (records.One X) = X ∷ []
+listOf (records.Three n c e) = rec.Qp n ∷ rec.Cq c ∷ rec.Eq e ∷ []
 
--- what a request holds while it runs: the record that its index names (01, Bursts, slots and holds)
+-- what a request holds while it runs: the record that its index names (01, Bursts, slots and holds); a joined read the queue pair, the
+-- completion queue and the event queue (02, wish 2)
+abbrev pub engineHolds : EngineRequest → Records
+engineHolds (engine.ReadState n) = records.One (rec.Qp n)
+engineHolds (engine.ReadNext n) = records.One (rec.Qp n)
+engineHolds (engine.ReadAll n) = records.One (rec.Qp n)
+engineHolds (engine.Write p s n psn) = records.One (rec.Qp n)
+engineHolds (engine.ReadJoined n c e) = records.Three n c e
+
 abbrev pub holdsOf : Request → Records
-holdsOf q = record { first = recordOf q }
+holdsOf (request.Command c) = records.One (commandRecord c)
+holdsOf (request.Engine e) = engineHolds e
 
 abbrev pub recordsOf : Request → List Record
 recordsOf q = listOf (holdsOf q)
@@ -70,7 +82,8 @@ abbrev pub allRecords : Logs → List Record → Bool
 allRecords g [] = true
 allRecords g (X ∷ Xs) = both (isRecord g X) (allRecords g Xs)
 
--- QUERY_QP and the engine requests 1, 2 and 6 read; every other request on a record writes (01, The plain book of demand 3)
+-- QUERY_QP and the engine requests 1, 2, 6 and 7 read; every other request on a record writes (01, The plain book of demand 3; 02,
+-- wish 2)
 abbrev pub commandWrites : Command → Bool
 commandWrites (command.Sw2Hw o) = true
 commandWrites (command.Hw2Sw o) = true
@@ -83,6 +96,7 @@ engineWrites (engine.ReadState n) = false
 engineWrites (engine.ReadNext n) = false
 engineWrites (engine.ReadAll n) = false
 engineWrites (engine.Write p s n psn) = true
+engineWrites (engine.ReadJoined n c e) = false
 
 abbrev pub writesOf : Request → Bool
 writesOf (request.Command c) = commandWrites c
@@ -100,6 +114,7 @@ enginePsnHolds (engine.ReadState n) = true
 enginePsnHolds (engine.ReadNext n) = true
 enginePsnHolds (engine.ReadAll n) = true
 enginePsnHolds (engine.Write p s n psn) = psnFits psn
+enginePsnHolds (engine.ReadJoined n c e) = true
 
 abbrev pub psnHolds : Request → Bool
 psnHolds (request.Command c) = true

@@ -31,12 +31,15 @@ pub enum PsnField {
     Expected,
 }
 
+// An engine request as a slot holds it. Request 7 is asked for by its queue pair alone.
 pub enum EngineRequest {
     ReadState(QpNumber),
     ReadNext(QpNumber),
     ReadAll(QpNumber),
     // The PSN and the state that the write leaves.
     Write(PsnField, State, QpNumber, u32),
+    // The queue pair, and the completion queue and event queue that the submission found named.
+    ReadJoined(QpNumber, CqNumber, EqNumber),
 }
 
 pub enum Request {

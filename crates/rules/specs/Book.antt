@@ -7,11 +7,13 @@ use Rattle.context.specs.Layout.{sameRecord}
 use Rattle.context.specs.declared.Logs.{Logs}
 use Rattle.context.specs.declared.Record.{Record}
 use Rattle.requests.specs.declared.Request.{Request}
-use Rattle.request_table.specs.Records.{recordOf, writesOf}
+use Rattle.request_table.specs.Records.{recordOf, recordsOf, writesOf}
 use Rattle.checks.specs.Permission.{permissionOf}
-use Rattle.checks.specs.Verdicts.{verdictNumber}
+use Rattle.checks.specs.Verdicts.{denialNumber, verdictNumber}
+use Rattle.checks.specs.declared.Denial.the-variants as denial
 use Rattle.answers.specs.Answers.{answerOf}
 use Rattle.rules.specs.Whole.{wholeEffect}
+use Rattle.rules.specs.Names.{Arguments, Named, found, lost, namedIn, joined}
 
 -- The book is open or closed and has every record as bytes. The counts say which numbers name a record.
 pub record Book : Type 0 where
@@ -19,10 +21,10 @@ pub record Book : Type 0 where
   pub counts : Logs
   pub bytes : Record → List ℕ
 
--- It is fed a request's arguments (op or number, index, PSN and state, as a typed request), and the needed front of the mailbox as it
--- was submitted.
+-- It is fed a request's arguments (op or number, index, PSN and state), and the needed front of the mailbox as it was submitted. Of a
+-- joined read that is the number and the index alone: the names it reads in its own records (02, wish 2).
 pub data Fed : Type 0 where
-  onRecord : Request → List ℕ → Fed
+  onRecord : Arguments → List ℕ → Fed
   closeHca : Fed
   nop : Fed
 
@@ -37,16 +39,28 @@ shutBook b = record { opened = false; counts = b .counts; bytes = b .bytes }
 unfoldable pub gated : Bool → ℕ → ℕ
 gated o n = pick o n 4
 
+-- the request that is asked for, with the names in the book's own records
+abbrev pub named : Arguments → Book → Named
+named a b = namedIn (b .counts) (b .bytes) a
+
 -- The number that the book gives, 0 for none: it accepts a request to which it gives none. A write gets the number of the denial where
--- the record does not permit its edge or has the wrong owner; a read is always permitted.
+-- the record does not permit its edge or has the wrong owner; a read is always permitted; a name out of range gets 3 (02, wish 2).
+abbrev pub namedNumber : Book → Named → ℕ
+namedNumber b (found q) = verdictNumber (permissionOf q (b .bytes (recordOf q)))
+namedNumber b lost = denialNumber denial.Name
+
 abbrev pub bookNumber : Fed → Book → ℕ
-bookNumber (onRecord q mail) b = gated (b .opened) (verdictNumber (permissionOf q (b .bytes (recordOf q))))
+bookNumber (onRecord a mail) b = gated (b .opened) (namedNumber b (named a b))
 bookNumber closeHca b = gated (b .opened) 0
 bookNumber nop b = 0
 
--- The answer of a read comes from the record, laid out as in collecting; every other answer is empty.
+-- The answer of a read comes from its records, laid out as in collecting; every other answer is empty.
+abbrev pub namedReply : Book → Named → List ℕ
+namedReply b (found q) = answerOf q (joined (recordsOf q) (b .bytes))
+namedReply b lost = []
+
 abbrev pub bookReply : Fed → Book → List ℕ
-bookReply (onRecord q mail) b = answerOf q (b .bytes (recordOf q))
+bookReply (onRecord a mail) b = namedReply b (named a b)
 bookReply closeHca b = []
 bookReply nop b = []
 
@@ -54,8 +68,12 @@ bookReply nop b = []
 unfoldable pub afterRecord : Request → List ℕ → Book → Book
 afterRecord q mail b = pick (writesOf q) (withRecord b (recordOf q) (wholeEffect q mail (b .bytes (recordOf q)))) b
 
+abbrev pub namedEffect : List ℕ → Book → Named → Book
+namedEffect mail b (found q) = afterRecord q mail b
+namedEffect mail b lost = b
+
 abbrev pub effectOf : Fed → Book → Book
-effectOf (onRecord q mail) b = afterRecord q mail b
+effectOf (onRecord a mail) b = namedEffect mail b (named a b)
 effectOf closeHca b = shutBook b
 effectOf nop b = b
 

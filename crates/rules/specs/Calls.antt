@@ -9,8 +9,6 @@ use Rattle.hcr.specs.declared.HcrCommand.{HcrCommand}
 use Rattle.hcr.specs.declared.ReadAnswer.{ReadAnswer}
 use Rattle.hcr.specs.declared.ReadAnswer.the-variants as hcr
 use Rattle.context.specs.declared.Logs.{Logs}
-use Rattle.requests.specs.declared.Request.{Request}
-use Rattle.requests.specs.declared.Request.the-variants as request
 use Rattle.commands.specs.Commands.{readOp, readCommand}
 use Rattle.commands.specs.declared.CommandFound.{CommandFound}
 use Rattle.commands.specs.declared.CommandFound.the-variants as command′
@@ -21,7 +19,6 @@ use Rattle.engines.specs.declared.EngineFound.{EngineFound}
 use Rattle.engines.specs.declared.EngineFound.the-variants as engine
 use Rattle.engines.specs.declared.NumberFound.{NumberFound}
 use Rattle.engines.specs.declared.NumberFound.the-variants as number
-use Rattle.mailboxes.specs.Mailboxes.{needOf}
 use Rattle.rules.specs.declared.SubmitAnswer.{SubmitAnswer}
 use Rattle.rules.specs.declared.SubmitAnswer.the-variants as submit
 use Rattle.rules.specs.declared.StepAnswer.{StepAnswer}
@@ -36,6 +33,7 @@ use Rattle.rules.specs.Engines.{submitEngine}
 use Rattle.rules.specs.Steps.{stepOf}
 use Rattle.rules.specs.Collections.{collectOf}
 use Rattle.rules.specs.Resets.{resetOf}
+use Rattle.rules.specs.Names.{Arguments, command as commandArguments, readJoined, engineArguments, needed}
 use Rattle.rules.specs.Book.{Fed, onRecord, closeHca, nop}
 
 -- a call, with its own input: an HCR and a mailbox; an engine request's number, index, PSN and state; a slot; a slot and a
@@ -74,14 +72,14 @@ pub data Asked : Type 0 where
   asksInit : Asked
   asksClose : Asked
   asksNop : Asked
-  asksRequest : Request → Asked
+  asksRequest : Arguments → Asked
   asksNothing : Asked
 
 abbrev pub foundAsked : CommandFound → Asked
 foundAsked command′.InitHca = asksInit
 foundAsked command′.CloseHca = asksClose
 foundAsked command′.Nop = asksNop
-foundAsked (command′.OnRecord c) = asksRequest (request.Command c)
+foundAsked (command′.OnRecord c) = asksRequest (commandArguments c)
 foundAsked command′.Wrong = asksNothing
 
 abbrev pub opAsked : Logs → HcrCommand → OpFound → Asked
@@ -97,7 +95,8 @@ abbrev pub commandAsked : Logs → List ℕ → Asked
 commandAsked g bytes = registerAsked g (readOf bytes)
 
 abbrev pub engineFoundAsked : EngineFound → Asked
-engineFoundAsked (engine.OnRecord e) = asksRequest (request.Engine e)
+engineFoundAsked (engine.OnRecord e) = asksRequest (engineArguments e)
+engineFoundAsked (engine.Joined n) = asksRequest (readJoined n)
 engineFoundAsked engine.Wrong = asksNothing
 
 abbrev pub numberAsked : Logs → ℕ → ℕ → ℕ → NumberFound → Asked
@@ -121,12 +120,12 @@ pub data Note : Type 0 where
   -- this slot was collected, with this answer
   emptied : ℕ → List ℕ → Note
 
--- what the book is fed: the request, and the needed front of the mailbox as submitted (01, The plain book of demand 3)
-abbrev pub fed : Request → List ℕ → Fed
-fed q mail = onRecord q (part 0 (needOf q) mail)
+-- what the book is fed: the arguments, and the needed front of the mailbox as submitted (01, The plain book of demand 3)
+abbrev pub fed : Arguments → List ℕ → Fed
+fed a mail = onRecord a (part 0 (needed a) mail)
 
 -- A request is accepted when its submission answers 0; a refusal is noted where its cause is the record's state (01, the same section).
-abbrev pub requestNote : Request → List ℕ → SubmitAnswer → Note
+abbrev pub requestNote : Arguments → List ℕ → SubmitAnswer → Note
 requestNote q mail submit.Done = nothing
 requestNote q mail (submit.Accepted k) = accepted (fed q mail) k
 requestNote q mail (submit.Refused c) = pick (forState c) (refused (fed q mail) (refusalNumber c)) nothing

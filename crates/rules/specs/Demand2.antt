@@ -44,6 +44,7 @@ Along (request.Command (command.ModifyQp e n)) code service next =
 Along (request.Engine (engine.ReadState n)) code service next = ⊥
 Along (request.Engine (engine.ReadNext n)) code service next = ⊥
 Along (request.Engine (engine.ReadAll n)) code service next = ⊥
+Along (request.Engine (engine.ReadJoined n c e)) code service next = ⊥
 Along (request.Engine (engine.Write p s n psn)) code service next = (permits (move.Engine s) code service ≡ true) × (next ≡ stateCode s)
 
 -- what a call makes of a queue pair's state

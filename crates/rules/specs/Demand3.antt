@@ -19,12 +19,14 @@ use lib.ListN.{replicate}
 use Rattle.words.specs.Choice.{pick}
 use Rattle.context.specs.Layout.{isRecord, recordSize}
 use Rattle.context.specs.declared.Record.{Record}
-use Rattle.request_table.specs.Records.{recordOf, writesOf}
+use Rattle.context.specs.declared.Record.the-variants as rec
+use Rattle.request_table.specs.Records.{commandRecord, commandWrites}
 use Rattle.records.specs.Memory.{recordIn}
 use Rattle.slots.specs.declared.Status.{Status}
 use Rattle.slots.specs.declared.Status.the-variants.{Free, Running, Finished}
 use Rattle.rules.specs.World.{World, statusAt}
 use Rattle.rules.specs.Collections.{answerAt}
+use Rattle.rules.specs.Names.{Arguments, command, readState, readNext, readAll, write, readJoined}
 use Rattle.rules.specs.Book.{Book, Fed, onRecord, closeHca, nop, bookNumber, bookReply, bookAfter}
 use Rattle.rules.specs.Calls.{Note, nothing, refused, accepted, finished, emptied, noteOf}
 use Rattle.rules.specs.Lending.{LentCall, answerLent, worldLent, beginsLent, stopsLent, proper}
@@ -91,9 +93,17 @@ finishedIn w (turnedAway f n ∷ J) = finishedIn w J
 finishedIn w (answered f a ∷ J) = done f a ∷ finishedIn w J
 finishedIn w (inSlot f k ∷ J) = inSlotDone w f k (statusAt k (w .row)) (finishedIn w J)
 
--- a request writes the record
+-- a request writes the record: a command that writes, its own, and an engine write its queue pair
+abbrev pub WritesRecord : Arguments → Record → Type 0
+WritesRecord (command c) X = (commandWrites c ≡ true) × (commandRecord c ≡ X)
+WritesRecord (readState n) X = ⊥
+WritesRecord (readNext n) X = ⊥
+WritesRecord (readAll n) X = ⊥
+WritesRecord (write p s n psn) X = rec.Qp n ≡ X
+WritesRecord (readJoined n) X = ⊥
+
 abbrev pub Writing : Fed → Record → Type 0
-Writing (onRecord q mail) X = (writesOf q ≡ true) × (recordOf q ≡ X)
+Writing (onRecord a mail) X = WritesRecord a X
 Writing closeHca X = ⊥
 Writing nop X = ⊥
 

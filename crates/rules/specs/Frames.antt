@@ -35,7 +35,7 @@ use Rattle.context.specs.declared.Record.{Record}
 use Rattle.requests.specs.declared.Request.{Request}
 use Rattle.request_table.specs.Records.{recordOf, recordsOf, writesOf}
 use Rattle.mailboxes.specs.Mailboxes.{needOf}
-use Rattle.burst_table.specs.Bursts.{burstsOf, totalOf}
+use Rattle.burst_table.specs.Bursts.{joinedSize, burstsOf, totalOf}
 use Rattle.burst_table.specs.Sizes.{slotRoom, roomSize}
 use Rattle.answers.specs.Answers.{answerOf, answerSize}
 use Rattle.byte_rule.specs.Bytes.{byteOf}
@@ -57,6 +57,7 @@ use Rattle.rules.specs.Commands.{submitCommand}
 use Rattle.rules.specs.Steps.{stepOf}
 use Rattle.rules.specs.Collections.{answerAt, collectOf}
 use Rattle.rules.specs.Whole.{wholeEffect}
+use Rattle.rules.specs.Names.{Arguments, needed, found, namedIn}
 use Rattle.rules.specs.Book.{onRecord}
 use Rattle.rules.specs.Calls.{Call, command, engineRequest, step, collection, resetting, Answer, submitted, stepped}
 use Rattle.rules.specs.Calls.{collected, resetDone, Asked, asksInit, asksClose, asksNop, asksRequest, asksNothing}
@@ -147,16 +148,16 @@ Copied =
     ≡ copy (getD (burstsOf q) m 0) (joinedIn (w .hca .logs) (w .memory) (recordsOf q)) (roomOf k (w .room)))
     × (stepOf w k .world .memory ≡ w .memory)
 
--- All bursts of a write, one after the other, make its whole effect, as the book has it; of a read, the room then answers as the
--- record does.
+-- All bursts of a write, one after the other, make its whole effect, as the book has it; of a read, the room then answers as its
+-- records do, one behind the other.
 abbrev pub BurstsWhole : Type 0
 BurstsWhole =
-    (q : Request) (mail r : List ℕ) → needOf q ≤ length mail → length r ≡ recordSize (recordOf q)
+    (q : Request) (mail r : List ℕ) → writesOf q ≡ true → needOf q ≤ length mail → length r ≡ recordSize (recordOf q)
     → after (byteOf q mail) (burstsOf q) r ≡ wholeEffect q mail r
 
 abbrev pub BurstsRead : Type 0
 BurstsRead =
-    (q : Request) (r room : List ℕ) → writesOf q ≡ false → length r ≡ recordSize (recordOf q) → length room ≡ slotRoom
+    (q : Request) (r room : List ℕ) → writesOf q ≡ false → length r ≡ joinedSize (recordsOf q) → length room ≡ slotRoom
     → answerOf q (copies (burstsOf q) r room) ≡ answerOf q r
 
 -- What a call makes of a record: nothing, or, where it steps a slot whose running request writes that record, exactly the next burst
@@ -191,12 +192,18 @@ BehindKept =
 -- ---- the slots and the room
 
 -- Submission puts the needed mailbox bytes at the front of the slot's part of the room, and takes the lowest free slot (01, Bursts, slots
--- and holds): q, fed with the needed front of the mailbox, was accepted into slot k.
+-- and holds): a, fed with the needed front of the mailbox, was accepted into slot k, where a request runs that was asked for by a; a joined
+-- read has the names that the records have (02, wish 2).
+pub record Taken (w u : World) (a : Arguments) (front : List ℕ) (k : ℕ) : Type 0 where
+  pub request : Request
+  pub named : namedIn (w .hca .logs) (recordIn (w .hca .logs) (w .memory)) a ≡ found request
+  pub runs : statusAt k (u .row) ≡ Running 0 request
+  pub filled : roomOf k (u .room) ≡ splice 0 front (roomOf k (w .room))
+
 abbrev pub SlotTaken : Type 0
 SlotTaken =
-    (w : World) (c : Call) (q : Request) (front : List ℕ) (k : ℕ)
-    → noteOf (w .hca .logs) c (answerTo w c) ≡ accepted (onRecord q front) k
-    → (statusAt k (worldAfter w c .row) ≡ Running 0 q) × (roomOf k (worldAfter w c .room) ≡ splice 0 front (roomOf k (w .room)))
+    (w : World) (c : Call) (a : Arguments) (front : List ℕ) (k : ℕ)
+    → noteOf (w .hca .logs) c (answerTo w c) ≡ accepted (onRecord a front) k → Taken w (worldAfter w c) a front k
 
 -- the slot that a submission takes
 abbrev pub takesSlot : Answer → ℕ → Bool
@@ -291,7 +298,7 @@ abbrev pub neededBy : Asked → ℕ
 neededBy asksInit = 64
 neededBy asksClose = 0
 neededBy asksNop = 0
-neededBy (asksRequest q) = needOf q
+neededBy (asksRequest a) = needed a
 neededBy asksNothing = 0
 
 -- Longer mailboxes are accepted and only the needed front is read (01, Commands).

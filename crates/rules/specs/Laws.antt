@@ -2,5 +2,6 @@
 -- submission decides and what the other calls come to, with all that is known at each end.
 pub mod Lent
 pub mod Found
+pub mod Named
 pub mod Decided
 pub mod Outcomes

@@ -3,6 +3,7 @@
 -- The rules: the numbers returned, what is lent, and the calls; each definition has its rule above it, with the section of 01.
 pub mod Numbers
 pub mod World
+pub mod Names
 pub mod Admission
 pub mod Commands
 pub mod Engines
@@ -17,6 +18,7 @@ pub mod Calls
 pub mod Lending
 pub mod Demand2
 pub mod Demand3
+pub mod Running
 pub mod Frames
 pub mod Theorems
 -- Calls whose answers are written out by hand from document 01, and computed.

@@ -4,6 +4,8 @@ use mathlib.Core.List.{List, [], _∷_}
 use Prim.Native.Nat.{ℕ}
 use lib.ListN.{take}
 use Rattle.checks.specs.Verdicts.{denialNumber}
+use Rattle.checks.specs.declared.Denial.{Denial}
+use Rattle.checks.specs.declared.Denial.the-variants as denial
 use Rattle.rules.specs.declared.Refusal.{Refusal}
 use Rattle.rules.specs.declared.Refusal.the-variants as cause
 use Rattle.rules.specs.declared.SubmitAnswer.{SubmitAnswer}
@@ -66,7 +68,13 @@ abbrev pub resetNumber : ResetAnswer → ℕ
 resetNumber reset.Done = 0
 resetNumber (reset.Refused c) = refusalNumber c
 
--- Which causes are the record's state: the edge is not permitted, or the owner is the wrong one (01, The plain book of demand 3).
+-- Which causes are the record's state: the edge is not permitted, or the owner is the wrong one (01, The plain book of demand 3); and a
+-- name in the record is out of range (02, wish 2).
+abbrev pub ofState : Denial → Bool
+ofState denial.Edge = true
+ofState denial.Owner = true
+ofState denial.Name = true
+
 abbrev pub forState : Refusal → Bool
 forState cause.BadLength = false
 forState cause.Impossible = false
@@ -81,5 +89,5 @@ forState cause.BadParameter = false
 forState cause.ShortMailbox = false
 forState cause.BadContent = false
 forState cause.Held = false
-forState (cause.Denied d) = true
+forState (cause.Denied d) = ofState d
 forState cause.Full = false

@@ -16,3 +16,4 @@ pub mod Started
 pub mod Lists
 pub mod Serial
 pub mod Edges
+pub mod Running

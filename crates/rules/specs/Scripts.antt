@@ -13,16 +13,17 @@ use Rattle.edges.specs.States.{isService}
 use Rattle.edges.specs.Edges.{permitsEdge, isActive, writeKeeps, writeFails, isSending, writeStops, permitsWrite, judgeOf}
 use Rattle.commands.specs.Commands.{readOp, readCommand}
 use Rattle.engines.specs.Engines.{readNumber, stateFrom, readEngine}
+use Rattle.requests.specs.declared.Request.{Request}
 use Rattle.request_table.specs.Records.{numbersHold}
 use Rattle.burst_table.specs.Sizes.{slotCount, roomSize}
-use Rattle.checks.specs.Fields.{stateOf, serviceOf, isHardware}
-use Rattle.answers.specs.Answers.{stateAnswer, nextAnswer, wholeAnswer}
+use Rattle.checks.specs.Fields.{stateOf, serviceOf, isHardware, cqNamed, eqNamed}
+use Rattle.answers.specs.Answers.{stateAnswer, nextAnswer, wholeAnswer, joinedAnswer}
 use Rattle.byte_rule.specs.Bytes.{withState, takenByte, edgeByte, sw2hwByte, resizeByte, psnByte, writeByte}
 use Rattle.bursts.specs.Moves.{writtenPart, writeAt, copyAt}
 use Rattle.bursts.specs.Room.{roomOf, frontOf, roomFilled, roomCopied}
 use Rattle.records.specs.Memory.{recordIn, burstPlace, written, readOut, permissionIn, zeroed}
 use Rattle.rows.specs.Rows.{emptyRow, anySlot, anyRest, lowestFree}
-use Rattle.holds.specs.Holds.{clashRecords, heldAgainst}
+use Rattle.holds.specs.Holds.{clashRecords, heldAgainst, readHeld}
 use Rattle.possible.specs.Possible.{commandBefore, twoCommands, holdsClash, openImpossible, impossible}
 use Rattle.rules.specs.declared.CollectAnswer.{CollectAnswer}
 use Rattle.rules.specs.declared.CollectAnswer.the-variants as collects
@@ -30,10 +31,12 @@ use Rattle.rules.specs.Numbers.{submitNumber, submitValues, stepNumber, 
 use Rattle.rules.specs.World.{World, world, hcaOf, statusAt, badRow, badStore, badLent, badState}
 use Rattle.rules.specs.Admission.{decidePlace, decideVerdict, decideRequest, worldOpened, worldClosed, worldTaken}
 use Rattle.rules.specs.Commands.{decideInit, decideFound, busy, decideOp, decideRegister, decideCommand, submitCommand}
-use Rattle.rules.specs.Engines.{decideAsked, decideNumber, decideEngine, submitEngine}
+use Rattle.rules.specs.Engines.{decideEq, decideCq, decideJoined, decideAsked, decideNumber, decideEngine, submitEngine}
 use Rattle.rules.specs.Steps.{memoryMoved, roomMoved, slotMoved, worldMoved, stepOn, stepOf}
 use Rattle.rules.specs.Collections.{answerAt, worldFreed, collectFinished, collectOn, collectOf}
 use Rattle.rules.specs.Resets.{resetOf}
+use Rattle.rules.specs.Names.{argumentsOf}
+use Rattle.rules.specs.Book.{Fed, onRecord}
 use Rattle.rules.specs.Calls.{Call, command, step, Answer, submitted, stepped, collected, resetDone, answerTo, initialises}
 use Rattle.rules.specs.Lending.{Lent, LentCall, answerLent, worldLent}
 
@@ -111,6 +114,10 @@ byTurns k zero = []
 byTurns k (suc zero) = step k gets (0 ∷ 0 ∷ []) on enough ∷ []
 byTurns k (suc (suc n)) = step k gets (0 ∷ suc n ∷ []) on enough ∷ step k gets (0 ∷ n ∷ []) ∷ byTurns k n
 
+-- what the book is fed of a slot's request
+abbrev pub asked : Request → List ℕ → Fed
+asked q mail = onRecord (argumentsOf q) mail
+
 -- ---- bytes
 
 -- n numbers, from i on
@@ -163,8 +170,12 @@ unfolding withBytes paramAt commandOf wellFormed18 wellFormed readRows readOf wo
 withRegister = tt
 
 -- records, edges and requests
+unfoldable pub withFields : Unit {0}
+unfolding stateOf serviceOf isHardware isService cqNamed eqNamed
+withFields = tt
+
 unfoldable pub withRecords : Unit {0}
-unfolding logsOf initRows initOf rangesHold fitsStore isRecord recordAt bytesOf sameRecord stateOf serviceOf isHardware isService
+unfolding withFields logsOf initRows initOf rangesHold fitsStore isRecord recordAt bytesOf sameRecord
 withRecords = tt
 
 unfoldable pub withEdges : Unit {0}
@@ -172,7 +183,7 @@ unfolding permitsEdge isActive writeKeeps writeFails isSending writeStops permit
 withEdges = tt
 
 unfoldable pub withRequests : Unit {0}
-unfolding readOp readCommand readNumber stateFrom readEngine numbersHold stateAnswer nextAnswer wholeAnswer
+unfolding readOp readCommand readNumber stateFrom readEngine numbersHold stateAnswer nextAnswer wholeAnswer joinedAnswer
 withRequests = tt
 
 -- bursts, memory, room and row
@@ -185,7 +196,7 @@ unfolding roomOf frontOf roomFilled roomCopied recordIn burstPlace written readO
 withMemories = tt
 
 unfoldable pub withRows : Unit {0}
-unfolding anySlot anyRest lowestFree clashRecords heldAgainst commandBefore twoCommands holdsClash openImpossible impossible
+unfolding anySlot anyRest lowestFree clashRecords heldAgainst readHeld commandBefore twoCommands holdsClash openImpossible impossible
 withRows = tt
 
 -- the calls
@@ -193,8 +204,12 @@ unfoldable pub withTests : Unit {0}
 unfolding statusAt badRow badStore badLent badState busy initialises
 withTests = tt
 
+unfoldable pub withNames : Unit {0}
+unfolding decideEq decideCq decideJoined
+withNames = tt
+
 unfoldable pub withDecisions : Unit {0}
-unfolding decidePlace decideVerdict decideRequest decideInit decideFound decideOp decideRegister decideAsked decideNumber
+unfolding withNames decidePlace decideVerdict decideRequest decideInit decideFound decideOp decideRegister decideAsked decideNumber
 withDecisions = tt
 
 unfoldable pub withSubmissions : Unit {0}

@@ -7,12 +7,14 @@ use Rattle.rules.specs.Frames.{Refusals, Steps, Collects, Written, Copie
 use Rattle.rules.specs.Frames.{SlotTaken, Rooms, Rows, Emptied, Opens, Counts, Buffers, Sizes, MailboxFront, RegisterFront, RoomFront}
 use Rattle.rules.specs.Demand2.{Statement as States}
 use Rattle.rules.specs.Demand3.{Zeroed, Statement as Serial}
+use Rattle.rules.specs.Running.{Statement as Holding}
 use Rattle.rules.specs.Proofs.Agree.{whole-bytes}
 use Rattle.rules.specs.Proofs.Admitted.{read-answers}
 use Rattle.rules.specs.Proofs.Frame as frame
 use Rattle.rules.specs.Proofs.Front as front
 use Rattle.rules.specs.Proofs.Edges as edges
 use Rattle.rules.specs.Proofs.Serial as serial
+use Rattle.rules.specs.Proofs.Running as holds
 
 -- a refusal changes nothing
 pub refusals : Refusals
@@ -34,7 +36,7 @@ copied = frame.copied
 
 -- all its bursts make the whole effect, or all that the answer reads
 pub bursts-whole : BurstsWhole
-bursts-whole q mail r n e = writes-whole q mail r e ∙ sym (whole-bytes q mail r n e)
+bursts-whole q mail r w n e = writes-whole q w mail r e ∙ sym (whole-bytes q mail r n e)
 
 pub bursts-read : BurstsRead
 bursts-read = read-answers
@@ -97,6 +99,10 @@ zeroed = serial.zeroed
 -- book's
 pub demand3 : Serial
 demand3 = serial.demand3
+
+-- while a joined read runs, the names in its slot are those in the store, and those that the book finds at its place in the journal
+pub running : Holding
+running = holds.running
 
 -- of the plain book: a request that gets a number changes nothing
 pub book-leaves : (f : Fed) (b : Book) (n : ℕ) → bookNumber f b ≡ suc n → bookAfter f b ≡ b

@@ -80,6 +80,7 @@ engineEffect (engine.ReadState n) r = r
 engineEffect (engine.ReadNext n) r = r
 engineEffect (engine.ReadAll n) r = r
 engineEffect (engine.Write p s n psn) r = setState s (psnEffect p psn r)
+engineEffect (engine.ReadJoined n c e) r = r
 
 abbrev pub wholeEffect : Request → List ℕ → List ℕ → List ℕ
 wholeEffect (request.Command c) mail r = commandEffect c mail r

@@ -34,7 +34,7 @@ pub enum Refusal {
     BadContent,
     // A record is held against this request.
     Held,
-    // The record's state does not permit it: the edge, or the owner.
+    // The record's state does not permit it: the edge, the owner, or a name in it that is out of range.
     Denied(Denial),
     // All eight slots are occupied.
     Full,

@@ -8,6 +8,7 @@ fn print_denial(denial: Denial) {
     match denial {
         Denial::Edge => text(b" the edge is not permitted"),
         Denial::Owner => text(b" the record has the wrong owner"),
+        Denial::Name => text(b" a name in the record is out of range"),
     }
 }
 

@@ -42,12 +42,12 @@ commandSlot how n =
     (pick (ltb 255 (nth n 3)) found.Wrong (occupiedAs how (nth n 3) (commandIn (nth n 0) (nth n 1) (nth n 2))))))
     found.Wrong
 
--- `slot K running engine NUMBER INDEX PSN STATE MOVED`, and likewise `finished`
+-- `slot K running engine NUMBER INDEX PSN STATE MOVED`, and likewise `finished`; `CQ EQ` stand for `PSN STATE` where NUMBER is 7
+-- (02, wish 2)
 unfoldable pub engineSlot : (how : List ℕ) → LineNumbers → SlotFound
 engineSlot how n =
     pick (n .good)
-    (pick (ltb 255 (nth n 3)) found.Wrong
-    (pick (ltb 255 (nth n 4)) found.Wrong (occupiedAs how (nth n 4) (engineIn (nth n 0) (nth n 1) (nth n 2) (nth n 3)))))
+    (pick (ltb 255 (nth n 4)) found.Wrong (occupiedAs how (nth n 4) (engineIn (nth n 0) (nth n 1) (nth n 2) (nth n 3))))
     found.Wrong
 
 -- `slot K free`: three words

@@ -73,22 +73,19 @@ fn command_slot(how: &[u8], read: LineNumbers) -> SlotFound
     occupied(how, moved as u8, found)
 }
 
-// `slot K running engine NUMBER INDEX PSN STATE MOVED`, and likewise `finished`.
+// `slot K running engine NUMBER INDEX PSN STATE MOVED`, and likewise `finished`; `CQ EQ` stand for
+// `PSN STATE` where NUMBER is 7.
 fn engine_slot(how: &[u8], read: LineNumbers) -> SlotFound
     ensures { λ r. ⌜ r ≡ engineSlot (now (how .entry)) read ⌝ }
 {
     if !read.good {
         return SlotFound::Wrong;
     }
-    let state = read.at[3];
     let moved = read.at[4];
-    if 255 < state {
-        return SlotFound::Wrong;
-    }
     if 255 < moved {
         return SlotFound::Wrong;
     }
-    let found = script_slots::read_engine(read.at[0], read.at[1], read.at[2], state as u8);
+    let found = script_slots::read_engine(read.at[0], read.at[1], read.at[2], read.at[3]);
     occupied(how, moved as u8, found)
 }
 

@@ -3,6 +3,8 @@ use script_bytes::BytesFound;
 use script_bytes::front;
 use script_keywords::Memory;
 use script_numbers::NumberFound;
+ghost use mathlib.Core.Path.{_≡_};
+ghost use Rattle.script_memory.specs.Lending.{freshOf};
 
 // Bytes of room that are there, whatever is lent of them.
 pub const ROOM: usize = 4096;
@@ -23,10 +25,12 @@ pub struct Lending {
 }
 
 // What `lend` lends of a store of this many bytes.
-pub fn fresh(there: usize) -> Lent {
+pub fn fresh(there: usize) -> Lent
+    ensures { λ r. ⌜ r ≡ freshOf there ⌝ }
+{
     Lent {
-        row: 8,
-        room: 2048,
+        row: burst_table::SLOTS,
+        room: burst_table::ROOM,
         store: there,
         there: there,
     }

@@ -25,8 +25,8 @@ fn show_state(hca: Hca) {
     end();
 }
 
-// The PSN and the state of an engine write.
-fn show_write(engine: EngineRequest) {
+// The PSN and the state of an engine write, and the names that a joined read holds.
+fn show_fields(engine: EngineRequest) {
     match engine {
         EngineRequest::ReadState(_) => {}
         EngineRequest::ReadNext(_) => {}
@@ -36,6 +36,12 @@ fn show_write(engine: EngineRequest) {
             more(psn as u64);
             text(b" state");
             more(edges::state_code(state) as u64);
+        }
+        EngineRequest::ReadJoined(_, c, e) => {
+            text(b" cq");
+            more(c.0 as u64);
+            text(b" eq");
+            more(e.0 as u64);
         }
     }
 }
@@ -56,7 +62,7 @@ fn show_request(request: Request) {
             text(b" engine");
             more(request_codes::engine_number(engine) as u64);
             show_index(request);
-            show_write(engine);
+            show_fields(engine);
         }
     }
 }

@@ -1,15 +1,18 @@
 // A slot's request from the numbers that a script gives it. A slot handed in may be impossible, so
-// the index and the PSN are not judged; but what no submission could ever put into a slot, the slot's
-// type cannot hold.
+// the index, the PSN and the names of a joined read are not judged; but what no submission could ever
+// put into a slot, the slot's type cannot hold.
 use commands::CommandFound;
 use commands::OpFound;
+use context::CqNumber;
+use context::EqNumber;
 use context::Logs;
+use context::QpNumber;
 use engines::EngineFound;
 use engines::NumberFound;
 use requests::EngineRequest;
 use requests::Request;
 ghost use mathlib.Core.Path.{_≡_};
-ghost use Rattle.script_slots.specs.Requests.{anyIndex, onRecord, withOp, commandIn, withPsn, onQueuePair, withNumber, engineIn};
+ghost use Rattle.script_slots.specs.Requests.{anyIndex, onRecord, withOp, commandIn, withPsn, codeOf, onOne, joinedOn, onQueuePair, withNumber, engineIn};
 
 pub enum RequestFound {
     Request(Request),
@@ -65,30 +68,58 @@ fn with_psn(engine: EngineRequest, psn: u32) -> EngineRequest
         EngineRequest::ReadNext(n) => EngineRequest::ReadNext(n),
         EngineRequest::ReadAll(n) => EngineRequest::ReadAll(n),
         EngineRequest::Write(field, state, n, _) => EngineRequest::Write(field, state, n, psn),
+        EngineRequest::ReadJoined(n, c, e) => EngineRequest::ReadJoined(n, c, e),
     }
 }
 
-fn on_queue_pair(found: EngineFound, psn: u32) -> RequestFound
-    ensures { λ r. ⌜ r ≡ onQueuePair found psn ⌝ }
+// A state as a submission takes it, in one byte. A larger one is no state, as 255 is none.
+fn code_of(state: u32) -> u8
+    ensures { λ r. ⌜ r ≡ codeOf state ⌝ }
+{
+    if 255 < state {
+        return 255;
+    }
+    state as u8
+}
+
+// A request on one queue pair.
+fn on_one(engine: EngineRequest, psn: u32, state: u32) -> RequestFound
+    ensures { λ r. ⌜ r ≡ onOne engine psn state ⌝ }
+{
+    if 255 < state {
+        return RequestFound::Wrong;
+    }
+    RequestFound::Request(Request::Engine(with_psn(engine, psn)))
+}
+
+// A joined read.
+fn joined(n: QpNumber, cq: u32, eq: u32) -> RequestFound
+    ensures { λ r. ⌜ r ≡ joinedOn n cq eq ⌝ }
+{
+    RequestFound::Request(Request::Engine(EngineRequest::ReadJoined(n, CqNumber(cq), EqNumber(eq))))
+}
+
+// Where other requests have PSN and state, a joined read has its names.
+fn on_queue_pair(found: EngineFound, psn: u32, state: u32) -> RequestFound
+    ensures { λ r. ⌜ r ≡ onQueuePair found psn state ⌝ }
 {
     match found {
-        EngineFound::OnRecord(engine) => RequestFound::Request(Request::Engine(with_psn(
-            engine,
-            psn,
-        ))),
+        EngineFound::OnRecord(engine) => on_one(engine, psn, state),
+        EngineFound::Joined(n) => joined(n, psn, state),
         EngineFound::Wrong => RequestFound::Wrong,
     }
 }
 
 // The request is read with the PSN 0, which is never refused.
-fn with_number(found: NumberFound, index: u32, psn: u32, state: u8) -> RequestFound
+fn with_number(found: NumberFound, index: u32, psn: u32, state: u32) -> RequestFound
     ensures { λ r. ⌜ r ≡ withNumber found index psn state ⌝ }
 {
     match found {
         NumberFound::Served(number) => {
             on_queue_pair(
-                engines::read_engine(number, index, 0, state, any_index()),
+                engines::read_engine(number, index, 0, code_of(state), any_index()),
                 psn,
+                state,
             )
         }
         NumberFound::NotServed => RequestFound::Wrong,
@@ -96,7 +127,7 @@ fn with_number(found: NumberFound, index: u32, psn: u32, state: u8) -> RequestFo
 }
 
 // An engine request.
-pub fn read_engine(number: u32, index: u32, psn: u32, state: u8) -> RequestFound
+pub fn read_engine(number: u32, index: u32, psn: u32, state: u32) -> RequestFound
     ensures { λ r. ⌜ r ≡ engineIn number index psn state ⌝ }
 {
     with_number(engines::read_number(number), index, psn, state)

@@ -27,7 +27,7 @@ pub record Sys : Type 1 where
   pub Req : Type 0
   pub Ans : Type 0
   -- The verdict: `accepted`, or why not. A type of its own and not a number, so that two causes may share a number, and so that
-  -- a cause that no call ever gives is a case and not a number set aside. Request 2 (three records joined) needs such a cause: that the
+  -- a cause that no call ever gives is a case and not a number set aside. Request 2 (three records joined) has such a cause: that the
   -- names which a slot holds are no longer those in the records.
   pub Num : Type 0
   pub accepted : Num

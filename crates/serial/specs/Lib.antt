@@ -10,6 +10,7 @@ pub mod Next
 pub mod Ledger
 pub mod Plain
 pub mod Told
+pub mod Standing
 pub mod Freer
 pub mod Finishing
 pub mod AnyOrder

@@ -2,8 +2,7 @@
 --
 -- The requests of the system's book are what a slot holds, and its records are what the machine shows. The plain book has a state
 -- of its own (`Book`) and may be fed with less: a slot's request may name records that submission found named in other records,
--- where the plain book is given the arguments alone (`asks`) and finds the names itself. That is so of request 2 (three records joined);
--- today a slot holds what was asked, and nothing else.
+-- where the plain book is given the arguments alone (`asks`) and finds the names itself. That is so of request 2 (three records joined).
 use mathlib.Core.Path.{_≡_, sym, _∙_, ap, subst}
 use mathlib.Core.List.{List, [], _∷_, _++_}
 use Rattle.serial.specs.Core.{Sys, Store, Journal, refused, play, Plays, plays-left, plays-right, Quiet, Inv, good-plays}
@@ -18,7 +17,7 @@ pub record Plain (S : Sys) : Type 1 where
   pub after : Ask → Book → Book
   -- the records that a book has
   pub shows : Book → S .Rec → S .Contents
-  -- the verdicts that a submission can give; not among them is "the request does not belong to these records", which request 2 needs
+  -- the verdicts that a submission can give; not among them is "the request does not belong to these records", which request 2 has
   pub Given : S .Num → Type 0
   -- over the same records: what the system's book accepts, the plain book accepts, with the same answer and the same effect
   pub takes : (r : S .Req) (b : Book) (s : S .Rec → S .Contents) → ((X : S .Rec) → shows b X ≡ s X) → S .num r s ≡ S .accepted

@@ -153,11 +153,11 @@ module _ (S : Sys) (P : Plain S) where
   givenTold b [] = b
   givenTold b (d ∷ L) = givenTold (after (d .what) b) L
 
-  given-told : (b : Book) (L : List (Done S)) → givenTold b (forgets fed L) ≡ given S P b L
+  pub given-told : (b : Book) (L : List (Done S)) → givenTold b (forgets fed L) ≡ given S P b L
   given-told b [] = refl
   given-told b (d ∷ L) = given-told (after (asks (d .what)) b) L
 
-  finished-told : (v : ℕ → Slot S) (I : List (Item S)) → finishedIn v (forgets tell I) ≡ forgets fed (finished S (stands S v I))
+  pub finished-told : (v : ℕ → Slot S) (I : List (Item S)) → finishedIn v (forgets tell I) ≡ forgets fed (finished S (stands S v I))
   finished-told v [] = refl
   finished-told v (off r n ∷ I) = finished-told v I
   finished-told v (gone r a ∷ I) = ap (λ l. record { what = asks r; gave = a } ∷ l) (finished-told v I)

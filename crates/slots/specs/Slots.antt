@@ -11,7 +11,7 @@ use Rattle.slots.specs.declared.Advanced.{Advanced}
 use Rattle.slots.specs.declared.Status.{Status}
 use Rattle.slots.specs.declared.Status.the-variants.{Free, Running, Finished}
 
--- what a slot holds of its request: today the request as it was asked; a later request adds what its submission read
+-- what a slot holds of its request: the request with the names that its submission read, if it read any (02, wish 2)
 abbrev pub Held : Type 0
 Held = Request
 

@@ -1,5 +1,5 @@
-// Engine requests with all eight slots busy: in each round eight are submitted, of every kind and
-// each for another queue pair, stepped in turn and collected.
+// Engine requests with all eight slots busy: in each round eight are submitted, of the numbers 1 to
+// 6 and each for another queue pair, stepped in turn and collected.
 use crate::calls;
 use crate::calls::Run;
 use crate::queue_pairs;

@@ -45,7 +45,7 @@ fn report(label: &[u8], run: Run, store: &[u8], room: &[u8], out: &[u8]) {
 
 // Opens the adapter with a store for `qps` queue pairs, 8 or more, and runs a workload.
 fn run(workload: u32, rounds: u32, logs: Logs, qps: u32, store: &mut [u8]) {
-    let mut room = [0u8; 2048];
+    let mut room = [0u8; burst_table::ROOM];
     let mut out = [0u8; 256];
     let open = calls::init(closed(), store, &mut room, logs);
     if workload == 1 {

@@ -28,12 +28,13 @@ const LOGS: Logs = Logs {
     mpts: 2,
 };
 
-// Moves all bursts of a request in order, with its mailbox in the slot's part of the room.
+// Moves all bursts of a request in order, with its mailbox in the slot's part of the room. The store
+// has bytes behind the record for every burst that any request could move.
 fn move_bursts(store: &mut [u8], request: Request) {
-    if store.len() < memory::RECORD_AT + 256 {
+    if store.len() < memory::RECORD_AT + burst_table::SLOT_ROOM {
         return;
     }
-    let mut room = [0x1du8; 2048];
+    let mut room = [0x1du8; burst_table::ROOM];
     memory::fill_mailbox(&mut room, memory::PART_AT, memory::PART_AT + 164);
     let total = burst_table::total(request);
     let mut m = 0;

@@ -3,8 +3,8 @@
 // The record starts at this byte of the store, so that other bytes stand before and behind it.
 pub const RECORD_AT: usize = 256;
 
-// The slot's part of the room that has the mailbox.
-pub const PART_AT: usize = 256;
+// The slot's part of the room that has the mailbox: slot 1's.
+pub const PART_AT: usize = burst_table::SLOT_ROOM;
 
 // Every byte of the store outside the record.
 pub const OUTSIDE: u8 = 0x47;

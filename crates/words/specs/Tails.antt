@@ -2,6 +2,7 @@
 use mathlib.Core.Path.{_≡_, refl, sym, _∙_, ap}
 use mathlib.Core.List.{List, [], _∷_, _++_, append-assoc}
 use Prim.Native.Nat.{ℕ, zero, suc, _+_, _≤_}
+use native.Mathlib.Nat.{zero-add, suc-add}
 use native.Mathlib.Omega.{arith}
 use lib.ListN.{length, take, drop, length-append, length-drop}
 use lib.Seq.{length-take-le, take-append-le, drop-append-le, drop-at}
@@ -21,6 +22,15 @@ pub part-left : (at n : ℕ) (r t : List ℕ) → at + n ≤ length r → part a
 unfolding part
 part-left at n r t h =
     ap (take n) (drop-append-le at r t (omega arith)) ∙ take-append-le n (drop at r) t (simp length-drop (omega arith))
+
+-- and one that lies in t stands as far behind r
+drop-past : (r t : List ℕ) (at : ℕ) → drop (length r + at) (r ++ t) ≡ drop at t
+drop-past [] t at = ap (λ (n : ℕ). drop n t) (zero-add at)
+drop-past (x ∷ r) t at = ap (λ (n : ℕ). drop n (x ∷ r ++ t)) (suc-add (length r) at) ∙ drop-past r t at
+
+pub part-right : (at n : ℕ) (r t : List ℕ) → part (length r + at) n (r ++ t) ≡ part at n t
+unfolding part
+part-right at n r t = ap (take n) (drop-past r t at)
 
 -- what is replaced in r leaves t behind it
 pub splice-left : (at : ℕ) (ys r t : List ℕ) → at + length ys ≤ length r → splice at ys (r ++ t) ≡ splice at ys r ++ t

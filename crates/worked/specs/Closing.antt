@@ -7,12 +7,12 @@ use lib.ListN.{replicate}
 use Rattle.burst_table.specs.Sizes.{slotCount, roomSize}
 use Rattle.rows.specs.Rows.{emptyRow}
 use Rattle.rules.specs.World.{world, hcaOf}
-use Rattle.rules.specs.Book.{Fed, onRecord, closeHca, nop, bookNumber, gated, withRecord, afterRecord, bookAfter}
+use Rattle.rules.specs.Book.{Fed, closeHca, nop, bookNumber, gated, withRecord, afterRecord, bookAfter}
 use Rattle.rules.specs.Calls.{engineRequest, step, collection, resetting, worldAfter}
 use Rattle.rules.specs.Lending.{proper}
 use Rattle.rules.specs.Demand3.{answered, runFrom, Run, done, finishedIn, given, bookOf, Demand3}
 use Rattle.rules.specs.Theorems.{demand3}
-use Rattle.rules.specs.Scripts.{Line, roomThere, storeThere, lending, enough, _gets_, _on_, lentOf, givenBy, answersFrom, allSteps}
+use Rattle.rules.specs.Scripts.{Line, roomThere, storeThere, lending, enough, _gets_, _on_, lentOf, givenBy, answersFrom, allSteps, asked}
 use Rattle.rules.specs.Scripts.{asks, initMail, image, before, first, start, everything}
 use Rattle.worked.specs.Worked.{readState, begins-it, sevenSlots, shortRoom, shortStore}
 
@@ -52,12 +52,12 @@ closing-left = refl
 
 -- a refusal with 4 is not for a record's state
 pub closing-journal : closed .journal
-    ≡ answered (onRecord (readState 1) []) (0 ∷ []) ∷ answered closeHca [] ∷ answered nop [] ∷ []
+    ≡ answered (asked (readState 1) []) (0 ∷ []) ∷ answered closeHca [] ∷ answered nop [] ∷ []
 unfolding everything closing closed
 closing-journal = refl
 
 pub closing-finished : finishedIn (proper (closed .world)) (closed .journal)
-    ≡ done (onRecord (readState 1) []) (0 ∷ []) ∷ done closeHca [] ∷ done nop [] ∷ []
+    ≡ done (asked (readState 1) []) (0 ∷ []) ∷ done closeHca [] ∷ done nop [] ∷ []
 unfolding everything closing closed
 closing-finished = refl
 
@@ -67,7 +67,7 @@ closing-demanded = demand3 before first begins-it (lentOf closing)
 
 -- the closed book gives 4 to all but NOP (01, The plain book of demand 3)
 pub closed-book : map (λ (f : Fed). bookNumber f (given (bookOf (proper start)) (finishedIn (proper (closed .world)) (closed .journal))))
-    (onRecord (readState 0) [] ∷ closeHca ∷ nop ∷ [])
+    (asked (readState 0) [] ∷ closeHca ∷ nop ∷ [])
     ≡ 4 ∷ 4 ∷ 0 ∷ []
 unfolding everything closing closed withRecord gated afterRecord bookAfter
 closed-book = refl

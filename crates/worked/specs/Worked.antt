@@ -1,11 +1,12 @@
 -- The theorem of demand 3 is not empty. A worked list of calls after an initialisation: every answer, the memory at the end, the
 -- journal and the finished requests, written out by hand from document 01 and computed; and what the theorem says of it. Some calls
 -- of the list are refused for what they are lent, and the list goes on.
-use mathlib.Core.Path.{_≡_, refl}
+use mathlib.Core.Path.{_≡_, refl, sym, subst, subst₂}
 use mathlib.Core.Bool.{true, false≢true}
 use mathlib.Core.List.{List, [], _∷_, _++_}
 use Prim.Native.Nat.{ℕ, _+_, _-_, _*_}
 use lib.ListN.{take, drop, replicate}
+use Rattle.context.specs.Layout.{isRecord, sameRecord}
 use Rattle.context.specs.Records.{record-same}
 use Rattle.context.specs.declared.Record.the-variants as rec
 use Rattle.edges.specs.declared.State.the-variants.{Rtr, Rts, Err}
@@ -21,14 +22,15 @@ use Rattle.records.specs.Memory.{recordIn}
 use Rattle.slots.specs.Slots.{slot}
 use Rattle.slots.specs.declared.Slot.{Slot}
 use Rattle.slots.specs.declared.Status.the-variants.{Free, Running, Finished}
-use Rattle.rules.specs.World.{world, hcaOf}
+use Rattle.rules.specs.World.{World, world, hcaOf, statusAt}
 use Rattle.rules.specs.Whole.{takeWords, setState, setPsn}
-use Rattle.rules.specs.Book.{Book, onRecord, nop, bookNumber, bookReply, gated, withRecord, afterRecord, bookAfter}
+use Rattle.rules.specs.Book.{Book, nop, bookNumber, bookReply, gated, withRecord, afterRecord, bookAfter}
 use Rattle.rules.specs.Calls.{engineRequest, step, collection, resetting}
 use Rattle.rules.specs.Lending.{Lent, beginsLent, proper}
-use Rattle.rules.specs.Demand3.{Entry, turnedAway, answered, inSlot, runFrom, Run, Done, done, finishedIn, given, bookOf, Demand3}
+use Rattle.rules.specs.Demand3.{Entry, turnedAway, answered, inSlot, runFrom, Run, Done, done, finishedIn, given}
+use Rattle.rules.specs.Demand3.{bookOf, Unwritten, Demand3}
 use Rattle.rules.specs.Theorems.{demand3}
-use Rattle.rules.specs.Scripts.{Line, roomThere, storeThere, lending, enough, _gets_, _on_, lentOf, givenBy, answersFrom}
+use Rattle.rules.specs.Scripts.{Line, roomThere, storeThere, lending, enough, _gets_, _on_, lentOf, givenBy, answersFrom, asked}
 use Rattle.rules.specs.Scripts.{allSteps, byTurns, upFrom, asks, image, before, first, start, everything}
 
 -- ---- The mailboxes: of the edge to RTR; of SW2HW_CQ, with the index 1 in word 2Ch; of RESIZE_CQ
@@ -59,7 +61,7 @@ unfoldable pub lines : List Line
 lines =
     -- no engine request has this number; a reader of queue pair 1; queue pair 0 is in RESET, so that RTR to RTS is not permitted, but
     -- RESET to INIT is
-    engineRequest 7 0 0 0 gets (2 ∷ [])
+    engineRequest 8 0 0 0 gets (2 ∷ [])
     ∷ engineRequest 1 1 0 0 gets (0 ∷ 0 ∷ [])
     ∷ asks 0x1b 0 image gets (0x85 ∷ []) on enough
     ∷ asks 0x19 0 image gets (0 ∷ 1 ∷ [])
@@ -214,18 +216,18 @@ left = refl
 
 unfoldable pub journal : List Entry
 journal =
-    inSlot (onRecord (readState 1) []) 0
-    ∷ turnedAway (onRecord toRts image) 0x85
-    ∷ answered (onRecord toInit image) []
+    inSlot (asked (readState 1) []) 0
+    ∷ turnedAway (asked toRts image) 0x85
+    ∷ answered (asked toInit image) []
     ∷ answered nop []
-    ∷ answered (onRecord toRtr image′) []
-    ∷ answered (onRecord readNext []) (2 ∷ 0x6d ∷ 0x6e ∷ 0x6f ∷ [])
-    ∷ inSlot (onRecord (readState 0) []) 2
-    ∷ turnedAway (onRecord writeAcked []) 0x85
-    ∷ inSlot (onRecord writeExpected []) 3
-    ∷ turnedAway (onRecord writeNext []) 0x85
-    ∷ answered (onRecord ownCq cq) []
-    ∷ inSlot (onRecord resizeCq resize) 1
+    ∷ answered (asked toRtr image′) []
+    ∷ answered (asked readNext []) (2 ∷ 0x6d ∷ 0x6e ∷ 0x6f ∷ [])
+    ∷ inSlot (asked (readState 0) []) 2
+    ∷ turnedAway (asked writeAcked []) 0x85
+    ∷ inSlot (asked writeExpected []) 3
+    ∷ turnedAway (asked writeNext []) 0x85
+    ∷ answered (asked ownCq cq) []
+    ∷ inSlot (asked resizeCq resize) 1
     ∷ []
 
 pub journal-is : end .journal ≡ journal
@@ -235,13 +237,13 @@ journal-is = refl
 -- two of them are not collected; the read of queue pair 1 and the resizing are not finished
 unfoldable pub finished : List Done
 finished =
-    done (onRecord toInit image) []
+    done (asked toInit image) []
     ∷ done nop []
-    ∷ done (onRecord toRtr image′) []
-    ∷ done (onRecord readNext []) (2 ∷ 0x6d ∷ 0x6e ∷ 0x6f ∷ [])
-    ∷ done (onRecord (readState 0) []) (2 ∷ [])
-    ∷ done (onRecord writeExpected []) []
-    ∷ done (onRecord ownCq cq) []
+    ∷ done (asked toRtr image′) []
+    ∷ done (asked readNext []) (2 ∷ 0x6d ∷ 0x6e ∷ 0x6f ∷ [])
+    ∷ done (asked (readState 0) []) (2 ∷ [])
+    ∷ done (asked writeExpected []) []
+    ∷ done (asked ownCq cq) []
     ∷ []
 
 pub finished-is : finishedIn (proper (end .world)) (end .journal) ≡ finished
@@ -261,7 +263,7 @@ unfolding everything finished image′ cq gated withRecord afterRecord bookAfter
 book-answers = refl
 
 -- its record of queue pair 0 is the store's, and in ERR; completion queue 1, which is half resized in the store, is as it was handed over
-pub book-records : (bookNumber (onRecord writeNext []) (given (bookOf (proper start)) finished) ≡ 0x85)
+pub book-records : (bookNumber (asked writeNext []) (given (bookOf (proper start)) finished) ≡ 0x85)
     × (given (bookOf (proper start)) finished .bytes (rec.Qp (record { 0 = 0 })) ≡ qp)
     × (given (bookOf (proper start)) finished .bytes (rec.Cq (record { 0 = 1 })) ≡ cq ++ (replicate 7 0 ++ (1 ∷ [])))
 unfolding everything finished image′ cq qp gated withRecord afterRecord bookAfter takeWords setState setPsn
@@ -278,24 +280,33 @@ unfolding start end
 demanded = demand3 before first begins-it (lentOf lines)
 
 -- and so, of the read of the next PSN, given to the book after the three requests that were accepted before it:
-pub reads : (bookNumber (onRecord readNext []) (given (bookOf (proper start)) (take 3 finished)) ≡ 0)
-    × (bookReply (onRecord readNext []) (given (bookOf (proper start)) (take 3 finished)) ≡ 2 ∷ 0x6d ∷ 0x6e ∷ 0x6f ∷ [])
+pub reads : (bookNumber (asked readNext []) (given (bookOf (proper start)) (take 3 finished)) ≡ 0)
+    × (bookReply (asked readNext []) (given (bookOf (proper start)) (take 3 finished)) ≡ 2 ∷ 0x6d ∷ 0x6e ∷ 0x6f ∷ [])
 unfolding finished
 reads =
-    let d : Done = done (onRecord readNext []) (2 ∷ 0x6d ∷ 0x6e ∷ 0x6f ∷ []) in (
+    let d : Done = done (asked readNext []) (2 ∷ 0x6d ∷ 0x6e ∷ 0x6f ∷ []) in (
       demanded .accepts (take 3 finished) (drop 4 finished) d finished-is,
       demanded .answers (take 3 finished) (drop 4 finished) d finished-is,
     )
 
 -- of the write that ERR does not permit, after the write to ERR, which is finished and not collected:
-pub refuses : bookNumber (onRecord writeNext []) (given (bookOf (proper start)) (finishedIn (proper (end .world)) (take 9 journal))) ≡ 0x85
+pub refuses : bookNumber (asked writeNext []) (given (bookOf (proper start)) (finishedIn (proper (end .world)) (take 9 journal))) ≡ 0x85
 unfolding journal
-refuses = demanded .refusals (take 9 journal) (drop 10 journal) (onRecord writeNext []) 0x85 journal-is
+refuses = demanded .refusals (take 9 journal) (drop 10 journal) (asked writeNext []) 0x85 journal-is
 
--- of queue pair 0, which nobody is writing:
+-- of queue pair 0, which nobody is writing: the resizing, of the requests that run, writes a completion queue
+leftWorld : World
+leftWorld = world (hcaOf true (record { qps = 1; cqs = 1; eqs = 0; mpts = 0 }) storeThere) row store room
+
+unwritten : Unwritten (proper leftWorld) (rec.Qp (record { 0 = 0 })) journal
+unfolding leftWorld statusAt sameRecord row journal
+unwritten =
+    ((λ x. x), (tt, (tt, ((λ x. false≢true (record-same (rec.Cq (record { 0 = 1 })) (rec.Qp (record { 0 = 0 })) (x .1))), tt))))
+
 pub keeps : recordIn (end .world .hca .logs) (proper (end .world) .memory) (rec.Qp (record { 0 = 0 }))
     ≡ given (bookOf (proper start)) (finishedIn (proper (end .world)) (end .journal)) .bytes (rec.Qp (record { 0 = 0 }))
-unfolding everything lines image′ cq resize end
+unfolding leftWorld isRecord
 keeps =
-    demanded .records (rec.Qp (record { 0 = 0 })) refl
-    ((λ x. absurd (false≢true (x .0))), (tt, (tt, ((λ x. absurd (false≢true (record-same _ _ (x .1)))), tt))))
+    demanded .records (rec.Qp (record { 0 = 0 }))
+    (subst (λ (w : World). isRecord (w .hca .logs) (rec.Qp (record { 0 = 0 })) ≡ true) (sym left) refl)
+    (subst₂ (λ (w : World) (J : List Entry). Unwritten (proper w) (rec.Qp (record { 0 = 0 })) J) (sym left) (sym journal-is) unwritten)

@@ -32,6 +32,14 @@ whole-answer-requires c κs =
 enum-told-4 : tie.Need-enum-told-4
 enum-told-4 c = search needs
 
+enum-told-5 : tie.Need-enum-told-5
+enum-told-5 c = search needs
+
+joined-answer-requires : tie.Need-joined-answer-requires
+joined-answer-requires c κs =
+    let start = c .before .before .before .before .before in
+    (start .pre .0, rw (c .before .enum-told5 .given .1) at (start .pre .1))
+
 same-length : tie.Need-same-length
 same-length c = search needs
 
@@ -53,6 +61,12 @@ returns-3 c = rw (c .before .before .before .before .enum-told3 .given .1) (c .b
 returns-4 : tie.Need-returns-4
 returns-4 c = rw (c .enum-told4 .given .1) (sym (splice-none _))
 
+same-length-4 : tie.Need-same-length-4
+same-length-4 c = search needs
+
+returns-5 : tie.Need-returns-5
+returns-5 c = rw (c .before .before .before .before .enum-told5 .given .1) (c .before .before .joined-answer .ensures)
+
 pub engine-answer-spec : {M : Type 1} → statement M
 engine-answer-spec =
     tie.close
@@ -64,10 +78,14 @@ engine-answer-spec =
     enum-told-3
     whole-answer-requires
     enum-told-4
+    enum-told-5
+    joined-answer-requires
     same-length
     returns
     same-length-2
     returns-2
     same-length-3
     returns-3
-    returns-4)
+    returns-4
+    same-length-4
+    returns-5)

@@ -20,6 +20,9 @@ enum-known-engine c = search needs
 state-and-psn-burst-requires : tie.Need-state-and-psn-burst-requires
 state-and-psn-burst-requires c κs = search needs
 
+enum-told-4 : tie.Need-enum-told-4
+enum-told-4 c = search needs
+
 returns : tie.Need-returns
 returns c = rw (c .enum-told .given .1) (sym (map-same _ _))
 
@@ -35,6 +38,9 @@ same-length c = search needs
 returns-4 : tie.Need-returns-4
 returns-4 c = rw (c .before .before .before .before .before .engine .given .1) (c .before .before .state-and-psn-burst .ensures)
 
+returns-5 : tie.Need-returns-5
+returns-5 c = rw (c .enum-told4 .given .1) (sym (map-same _ _))
+
 pub engine-burst-spec : {M : Type 1} → statement M
 engine-burst-spec =
     tie.close
@@ -44,8 +50,10 @@ engine-burst-spec =
     enum-told-3
     enum-known-engine
     state-and-psn-burst-requires
+    enum-told-4
     returns
     returns-2
     returns-3
     same-length
-    returns-4)
+    returns-4
+    returns-5)

@@ -19,6 +19,12 @@ part-decide-request-end c = search needs
 decide-request-requires : tie.Need-decide-request-requires
 decide-request-requires c κs = c .before .before .before .before .before .pre .stored _ (c .before .before .found .given .1)
 
+enum-known-found-2 : tie.Need-enum-known-found-2
+enum-known-found-2 c = search needs
+
+decide-joined-requires : tie.Need-decide-joined-requires
+decide-joined-requires c κs = c .before .before .before .before .pre .joined _ (c .before .found2 .given .1)
+
 enum-told : tie.Need-enum-told
 enum-told c = search needs
 
@@ -28,7 +34,11 @@ returns c room = rw (c .before .before .before .found .given .1) (c .decide-requ
 
 returns-2 : tie.Need-returns-2
 unfolding decideAsked
-returns-2 c room = rw (c .enum-told .given .1)
+returns-2 c room = rw (c .before .before .found2 .given .1) (c .decide-joined .ensures room)
+
+returns-3 : tie.Need-returns-3
+unfolding decideAsked
+returns-3 c room = rw (c .enum-told .given .1)
 
 pub decide-asked-spec : {M : Type 1} → statement M
 decide-asked-spec =
@@ -39,6 +49,9 @@ decide-asked-spec =
     part-decide-request-start
     part-decide-request-end
     decide-request-requires
+    enum-known-found-2
+    decide-joined-requires
     enum-told
     returns
-    returns-2)
+    returns-2
+    returns-3)

@@ -21,6 +21,9 @@ read-state-requires c κs = search needs
 engine-write-requires : tie.Need-engine-write-requires
 engine-write-requires c κs = search needs
 
+enum-told-4 : tie.Need-enum-told-4
+enum-told-4 c = search needs
+
 returns : tie.Need-returns
 returns c = rw (c .enum-told .given .1)
 
@@ -33,6 +36,9 @@ returns-3 c = rw (c .enum-told3 .given .1)
 returns-4 : tie.Need-returns-4
 returns-4 c = rw (c .before .before .before .number .given .1, ← c .before .read-state .ensures) (c .engine-write .ensures)
 
+returns-5 : tie.Need-returns-5
+returns-5 c = rw (c .enum-told4 .given .1)
+
 pub engine-on-spec : {M : Type 1} → statement M
 engine-on-spec =
     tie.close
@@ -43,7 +49,9 @@ engine-on-spec =
     enum-known-number
     read-state-requires
     engine-write-requires
+    enum-told-4
     returns
     returns-2
     returns-3
-    returns-4)
+    returns-4
+    returns-5)

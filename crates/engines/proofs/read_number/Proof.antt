@@ -31,8 +31,12 @@ returns-6 c = number-answer _ _ (rw (c .match .keys6))
 
 returns-7 : tie.Need-returns-7
 unfolding readNumber
-returns-7 c = number-answer _ _ (search cases depth 20)
+returns-7 c = number-answer _ _ (rw (c .match .keys7))
+
+returns-8 : tie.Need-returns-8
+unfolding readNumber
+returns-8 c = number-answer _ _ (search cases depth 20)
 
 pub read-number-spec : {M : Type 1} → statement M
 read-number-spec =
-    tie.close (tie.spec returns returns-2 returns-3 returns-4 returns-5 returns-6 returns-7)
+    tie.close (tie.spec returns returns-2 returns-3 returns-4 returns-5 returns-6 returns-7 returns-8)

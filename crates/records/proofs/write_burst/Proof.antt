@@ -14,7 +14,7 @@ record-place-requires c κs = search needs
 add-at : tie.Need-add-at
 add-at c =
     let pre = c .before .before .before .before .pre in
-    omega (arith, place-small _ _ _ _ _ _ pre _ _ (c .before .offset .ensures) (c .record-place .ensures))
+    omega (arith, place-small _ _ _ _ _ _ (pre .1) _ (c .before .offset .ensures) (pre .0) _ (c .record-place .ensures))
 
 slot-start-requires : tie.Need-slot-start-requires
 slot-start-requires c κs = search needs

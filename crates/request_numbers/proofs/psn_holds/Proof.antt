@@ -27,6 +27,9 @@ enum-known-engine c = search needs
 psn-fits-requires : tie.Need-psn-fits-requires
 psn-fits-requires c κs = search needs
 
+enum-told-5 : tie.Need-enum-told-5
+enum-told-5 c = search needs
+
 returns-2 : tie.Need-returns-2
 returns-2 c = search needs
 
@@ -37,8 +40,10 @@ returns-4 : tie.Need-returns-4
 returns-4 c = search needs
 
 returns-5 : tie.Need-returns-5
-returns-5 c =
-    rw (c .before .before .before .before .before .request .given .1, c .before .before .engine .given .1) (c .psn-fits .ensures)
+returns-5 c = rw (c .before .before .before .before .before .request .given .1, c .before .before .engine .given .1) (c .psn-fits .ensures)
+
+returns-6 : tie.Need-returns-6
+returns-6 c = search needs
 
 pub psn-holds-spec : {M : Type 1} → statement M
 psn-holds-spec =
@@ -52,7 +57,9 @@ psn-holds-spec =
     enum-told-4
     enum-known-engine
     psn-fits-requires
+    enum-told-5
     returns-2
     returns-3
     returns-4
-    returns-5)
+    returns-5
+    returns-6)

@@ -15,6 +15,9 @@ enum-known-engine-3 c = search needs
 enum-known-engine-4 : tie.Need-enum-known-engine-4
 enum-known-engine-4 c = search needs
 
+enum-known-engine-5 : tie.Need-enum-known-engine-5
+enum-known-engine-5 c = search needs
+
 returns : tie.Need-returns
 returns c = rw (c .before .engine .given .1)
 
@@ -27,6 +30,9 @@ returns-3 c = rw (c .before .engine3 .given .1)
 returns-4 : tie.Need-returns-4
 returns-4 c = rw (c .before .engine4 .given .1)
 
+returns-5 : tie.Need-returns-5
+returns-5 c = rw (c .before .engine5 .given .1)
+
 pub engine-record-spec : {M : Type 1} → statement M
 engine-record-spec =
     tie.close
@@ -35,7 +41,9 @@ engine-record-spec =
     enum-known-engine-2
     enum-known-engine-3
     enum-known-engine-4
+    enum-known-engine-5
     returns
     returns-2
     returns-3
-    returns-4)
+    returns-4
+    returns-5)

@@ -7,6 +7,7 @@ use lib.Dec.{eqb, ltb}
 use Rattle.words.specs.Choice.{by-pick}
 use Rattle.context.specs.Layout.{isRecord}
 use Rattle.context.specs.declared.Logs.{Logs}
+use Rattle.context.specs.declared.Record.the-variants as rec
 use Rattle.numbers.specs.declared.QpFound.{QpFound}
 use Rattle.numbers.specs.declared.CqFound.{CqFound}
 use Rattle.numbers.specs.declared.EqFound.{EqFound}
@@ -80,9 +81,18 @@ command-reads g o p n =
 
 -- ---- engine requests
 
--- a request that is found has a record of the store
+-- a request that is found has one record, or the names of the others are still to be read
+abbrev pub Alone : EngineRequest → Type 0
+Alone (engine.ReadState n) = Unit {0}
+Alone (engine.ReadNext n) = Unit {0}
+Alone (engine.ReadAll n) = Unit {0}
+Alone (engine.Write p s n psn) = Unit {0}
+Alone (engine.ReadJoined n c e) = ⊥
+
+-- and the record of its index is one of the store
 abbrev pub Valid : Logs → EngineFound → Type 0
-Valid g (asked.OnRecord e) = isRecord g (engineRecord e) ≡ true
+Valid g (asked.OnRecord e) = (isRecord g (engineRecord e) ≡ true) × Alone e
+Valid g (asked.Joined n) = isRecord g (rec.Qp n) ≡ true
 Valid g asked.Wrong = Unit {0}
 
 -- queue pair n is a record
@@ -90,13 +100,14 @@ abbrev IsQp : Logs → ℕ → Type 0
 IsQp g n = isRecord g (engineRecord (engine.ReadState (record { 0 = n }))) ≡ true
 
 state-valid : (g : Logs) (p : PsnField) (n psn : ℕ) (s : StateFound) → IsQp g n → Valid g (writeFound p (record { 0 = n }) psn s)
-state-valid g p n psn (stateFound.State s) t = t
+state-valid g p n psn (stateFound.State s) t = (t, tt)
 state-valid g p n psn stateFound.OutOfRange t = tt
 
 on-valid : (g : Logs) (k : EngineNumber) (n psn code : ℕ) → IsQp g n → Valid g (engineOn k (record { 0 = n }) psn code)
-on-valid g number.ReadState n psn code t = t
-on-valid g number.ReadNext n psn code t = t
-on-valid g number.ReadAll n psn code t = t
+on-valid g number.ReadState n psn code t = (t, tt)
+on-valid g number.ReadNext n psn code t = (t, tt)
+on-valid g number.ReadAll n psn code t = (t, tt)
+on-valid g number.ReadJoined n psn code t = t
 on-valid g (number.Write p) n psn code t =
     by-pick (Valid g) (psnFits psn) (writeFound p (record { 0 = n }) psn (stateFrom code)) asked.Wrong
     (λ _. state-valid g p n psn (stateFrom code) t) (λ _. tt)

@@ -11,7 +11,7 @@ use Rattle.words.specs.Choice.{both-right}
 use Rattle.words.specs.Tests.{neither-left, neither-right}
 use Rattle.context.specs.Layout.{isRecord, inUse, rangesHold, fitsStore}
 use Rattle.requests.specs.declared.Request.{Request}
-use Rattle.request_table.specs.Records.{recordOf}
+use Rattle.request_table.specs.Records.{recordOf, recordsOf, allRecords}
 use Rattle.burst_table.specs.Bursts.{totalOf}
 use Rattle.burst_table.specs.Sizes.{slotCount, roomSize}
 use Rattle.records.specs.Memory.{Fits}
@@ -70,9 +70,10 @@ open-fits w l e o =
       lent-store w l o,
     )
 
--- a running slot's record is a record of the store, and bursts are left
+-- a running slot's records are records of the store, and bursts are left
 pub record Runs (w : World) (q : Request) (m : ℕ) : Type 0 where
   pub valid : isRecord (w .hca .logs) (recordOf q) ≡ true
+  pub all : allRecords (w .hca .logs) (recordsOf q) ≡ true
   pub more : m < totalOf q
 
 pub running : (w : World) → badState w ≡ false → w .hca .«open» ≡ true → (k : ℕ) (q : Request) (m : ℕ)
@@ -80,5 +81,6 @@ pub running : (w : World) → badState w ≡ false → w .hca .«open» ≡ true
 unfolding badState statusAt
 running w e o k q m f = record {
   valid = running-right (w .hca) (w .row) o e k q m f .valid;
+  all = running-right (w .hca) (w .row) o e k q m f .all;
   more = running-moved (w .hca) (w .row) o e k q m f;
 }

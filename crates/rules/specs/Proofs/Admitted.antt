@@ -11,19 +11,19 @@ use Rattle.words.specs.Tests.{is-true}
 use Rattle.words.specs.Choice.{pick}
 use Rattle.words.specs.Parts.{part, length-part}
 use Rattle.context.specs.Layout.{recordSize}
-use Rattle.context.specs.declared.Record.{Record}
-use Rattle.requests.specs.declared.Command.the-variants as command
-use Rattle.requests.specs.declared.EngineRequest.the-variants as engine
+use Rattle.context.specs.declared.QpNumber.{QpNumber}
 use Rattle.requests.specs.declared.Request.{Request}
-use Rattle.requests.specs.declared.Request.the-variants as request
 use Rattle.request_table.specs.Records.{recordOf, recordsOf, writesOf}
+use Rattle.request_table.specs.Listed.{all-in}
 use Rattle.mailboxes.specs.Mailboxes.{needOf}
-use Rattle.burst_table.specs.Bursts.{burstsOf}
+use Rattle.burst_table.specs.Bursts.{joinedSize, burstsOf}
 use Rattle.burst_table.specs.Sizes.{slotCount, slotRoom}
-use Rattle.burst_table.specs.Touched.{Fit, fit-more}
-use Rattle.burst_table.specs.Laws.{bursts-fit, bursts-room, need-small}
+use Rattle.burst_table.specs.Touched.{Fit}
+use Rattle.burst_table.specs.Laws.{bursts-joined, bursts-room, records-room, need-small}
 use Rattle.checks.specs.Permission.{permissionOf}
-use Rattle.checks.specs.Verdicts.{verdictNumber}
+use Rattle.checks.specs.Verdicts.{denialNumber, verdictNumber}
+use Rattle.checks.specs.declared.Denial.{Denial}
+use Rattle.checks.specs.declared.Denial.the-variants as denial
 use Rattle.checks.specs.declared.Verdict.{Verdict}
 use Rattle.checks.specs.declared.Verdict.the-variants.{Permitted, Denied}
 use Rattle.answers.specs.Answers.{answerOf}
@@ -31,8 +31,8 @@ use Rattle.answers.specs.Laws.{answer-agrees}
 use Rattle.bursts.specs.Copies.{copies, length-copies, copies-in}
 use Rattle.bursts.specs.Effects.{writes-whole}
 use Rattle.bursts.specs.Room.{roomOf, frontOf, length-room, length-filled, front-filled, other-filled, other-front-filled}
-use Rattle.records.specs.Memory.{recordIn, permissionIn}
-use Rattle.records.specs.Laws.{length-recordIn}
+use Rattle.records.specs.Memory.{recordIn, AllRecords, permissionIn}
+use Rattle.records.specs.Laws.{length-recordIn, length-joinedIn, all-records}
 use Rattle.slots.specs.Slots.{slot, isOccupied, occupiedStatus}
 use Rattle.slots.specs.declared.Slot.{Slot}
 use Rattle.slots.specs.declared.Status.{Status}
@@ -41,7 +41,7 @@ use Rattle.rows.specs.Rows.{anySlot, lowestFree}
 use Rattle.rows.specs.Every.{none-each}
 use Rattle.holds.specs.Holds.{clashRecords, heldAgainst}
 use Rattle.rows.specs.Laws.{Lowest, lowest-free-is}
-use Rattle.holds.specs.Laws.{held-none, no-writer}
+use Rattle.holds.specs.Laws.{held-none, no-writer, read-free}
 use Rattle.rows.specs.declared.SlotFound.the-variants.{At}
 use Rattle.serial.specs.Core.{Passes}
 use Rattle.serial.specs.Slots.{runs, PassesAll, idle, turn, take, once}
@@ -49,20 +49,25 @@ use Rattle.serial.specs.Told.{Heard, silence, sent, into, straight, out}
 use Rattle.rules.specs.declared.Decision.{Decision}
 use Rattle.rules.specs.declared.Decision.the-variants as decide
 use Rattle.rules.specs.declared.Refusal.{Refusal}
+use Rattle.rules.specs.declared.Refusal.the-variants as cause
 use Rattle.rules.specs.declared.SubmitAnswer.the-variants as submit
-use Rattle.rules.specs.Numbers.{refusalNumber, forState}
+use Rattle.rules.specs.Numbers.{refusalNumber, ofState, forState}
 use Rattle.rules.specs.World.{World, statusAt}
 use Rattle.rules.specs.Admission.{worldTaken, worldClosed, applied}
-use Rattle.rules.specs.Book.{Fed, closeHca as closing, nop as resting}
+use Rattle.rules.specs.Names.{Arguments, argumentsOf, readJoined}
+use Rattle.rules.specs.Book.{Fed, onRecord, closeHca as closing, nop as resting}
 use Rattle.rules.specs.Calls.{Note, nothing, refused as refusedNote, accepted as acceptedNote, finished, emptied, Asked, asksInit}
 use Rattle.rules.specs.Calls.{asksClose, asksNop, asksRequest, asksNothing, fed, requestNote, submitNote, isInit, isDone}
 use Rattle.rules.specs.Laws.Lent.{Sized, lent-sized, open-fits}
-use Rattle.rules.specs.Laws.Decided.{Judging, Decided, plain, denied, takes, closes, rests, opens}
+use Rattle.rules.specs.Laws.Named.{need-arguments, fits, fits-local, Lost, trailOf, misses, misses-local}
+use Rattle.rules.specs.Laws.Decided.{qpsOf, cqsOf, eqsOf, Judging, Missing, Decided, plain, denied, misnamed}
+use Rattle.rules.specs.Laws.Decided.{takes, closes, rests, opens}
 use Rattle.rules.specs.Proofs.Agree.{whole-bytes}
-use Rattle.rules.specs.Proofs.System.{Place, gate, at, Req, one, closeHca, nop, Num, number, gateBytes, gatedBy}
-use Rattle.rules.specs.Proofs.System.{Sees, Writes, own-seen, num, eff, Left, left, MidOf, join, system}
-use Rattle.rules.specs.Proofs.Shown.{plain as book, join-one}
-use Rattle.rules.specs.Proofs.View.{lookAt, slotView, slotAt, viewOf, Fine, look-valid, look-same, others}
+use Rattle.rules.specs.Proofs.System.{Place, gate, at, Req, one, missing, closeHca, nop, Num, number, stale, gateBytes, gatedBy}
+use Rattle.rules.specs.Proofs.System.{Sees, Writes, own-seen, recordsIn, qpCount, cqCount, eqCount, num, eff, Left}
+use Rattle.rules.specs.Proofs.System.{left, MidOf, join, system}
+use Rattle.rules.specs.Proofs.Shown.{plain as book}
+use Rattle.rules.specs.Proofs.View.{lookAt, slotView, slotAt, viewOf, Fine, look-valid, look-same, look-joined, others}
 
 -- the note of a call, for the journal of `serial`
 abbrev pub noteFor : Note → Heard system book
@@ -109,35 +114,55 @@ passes-all w q mail h j f p e =
     subst (λ (x : Req). Passes system x (one q mail)) (s .asks)
     (passes (s .request) q (frontOf j (s .request) (w .room)) mail (held-none (w .row) q h j (s .request) (s .moved) (s .is)))
 
--- ---- a reader's record is a queue pair's
-
-reader-size : (q : Request) → writesOf q ≡ false → recordSize (recordOf q) ≡ 256
-reader-size (request.Command (command.Sw2Hw o)) e = absurd (true≢false e)
-reader-size (request.Command (command.Hw2Sw o)) e = absurd (true≢false e)
-reader-size (request.Command (command.ResizeCq n)) e = absurd (true≢false e)
-reader-size (request.Command (command.QueryQp n)) e = refl
-reader-size (request.Command (command.ModifyQp x n)) e = absurd (true≢false e)
-reader-size (request.Engine (engine.ReadState n)) e = refl
-reader-size (request.Engine (engine.ReadNext n)) e = refl
-reader-size (request.Engine (engine.ReadAll n)) e = refl
-reader-size (request.Engine (engine.Write p s n psn)) e = absurd (true≢false e)
-
--- once all bursts of a read are copied, the slot's part of the room answers as the record does
-pub read-answers : (q : Request) (c buf : List ℕ) → writesOf q ≡ false → length c ≡ recordSize (recordOf q) → length buf ≡ slotRoom
+-- once all bursts of a read are copied, the slot's part of the room answers as the records do, one behind the other
+pub read-answers : (q : Request) (c buf : List ℕ) → writesOf q ≡ false → length c ≡ joinedSize (recordsOf q) → length buf ≡ slotRoom
     → answerOf q (copies (burstsOf q) c buf) ≡ answerOf q c
 read-answers q c buf rd e f =
-    let h : Fit (length c) (burstsOf q) = rw e (bursts-fit q) in
+    let h : Fit (length c) (burstsOf q) = rw e (bursts-joined q) in
     let k : Fit (length buf) (burstsOf q) = rw f (bursts-room q) in
-    answer-agrees q (copies (burstsOf q) c buf) c (omega (arith, length-copies (burstsOf q) c buf h k)) (omega (arith, e, reader-size q rd))
+    answer-agrees q (copies (burstsOf q) c buf) c (omega (arith, length-copies (burstsOf q) c buf h k, records-room q)) (omega (arith, e))
     (copies-in (burstsOf q) c buf h k)
 
 -- ---- all bursts are still to move
 
 begun : (q : Request) (mail buf : List ℕ) (s : Place → List ℕ) → needOf q ≤ length mail
-    → length (s (at (recordOf q))) ≡ recordSize (recordOf q)
+    → length (s (at (recordOf q))) ≡ recordSize (recordOf q) → length (join (recordsOf q) s) ≡ joinedSize (recordsOf q)
     → length buf ≡ slotRoom → (b : Bool) → writesOf q ≡ b → MidOf b q mail (left (burstsOf q) buf) s s
-begun q mail buf s n e f true wr = writes-whole q mail (s (at (recordOf q))) e ∙ sym (whole-bytes q mail (s (at (recordOf q))) n e)
-begun q mail buf s n e f false rd = read-answers q (join (recordsOf q) s) buf rd (ap length (join-one q s) ∙ e) f
+begun q mail buf s n e j f true wr = writes-whole q wr mail (s (at (recordOf q))) e ∙ sym (whole-bytes q mail (s (at (recordOf q))) n e)
+begun q mail buf s n e j f false rd = read-answers q (join (recordsOf q) s) buf rd j f
+
+-- ---- a joined read that comes to a name out of range
+
+module _ (w : World) (mail : List ℕ) (n : QpNumber) (t : Lost) (g : Missing w n t) where
+  missing-passes : PassesAll system (viewOf w) (missing n t)
+  unfolding statusAt
+  missing-passes j f p e =
+      let s : Seen j (w .room) (statusAt j (w .row)) f p = seen-runs j (w .room) (statusAt j (w .row)) f p e in
+      subst (λ (x : Req). Passes system x (missing n t)) (s .asks)
+      (record { out = forth (s .request) (s .moved) (s .is) (frontOf j (s .request) (w .room)); back = λ X x y. x; also = tt })
+    where
+      forth : (r : Request) (m : ℕ) → statusAt j (w .row) ≡ Running m r → (front : List ℕ) (X : Place) → Writes (one r front) X
+          → Sees (missing n t) X → ⊥
+      forth r m i front gate x y = x
+      forth r m i front (at X) x y =
+          read-free (w .row) X (g .free X y) j r m i (own-seen r X (x .1)) (is-true (writesOf r) (x .0))
+
+  missing-verdict : num (missing n t) (lookAt w) ≡ number (denialNumber denial.Name)
+  missing-verdict =
+      ap (λ (b : Bool). let o : List ℕ = gateBytes b (w .hca .logs) in
+      gatedBy o (pick (misses (cqCount o) (eqCount o) n t (recordsIn (lookAt w))) (number (denialNumber denial.Name)) stale)) (g .opened)
+      ∙ ap (λ (b : Bool). pick b (number (denialNumber denial.Name)) stale)
+      (misses-local (cqsOf w) (eqsOf w) n t (recordsIn (lookAt w)) (recordIn (w .hca .logs) (w .memory))
+      (λ X y. look-valid w X (all-in (w .hca .logs) X (trailOf n t) (g .all) y)) ∙ g .missed)
+
+  pub missing-ok : Fine w w (sent (fed (readJoined n) mail) (number (denialNumber denial.Name)))
+  unfolding part
+  missing-ok = record {
+    note = _;
+    tells = refl;
+    ended = [];
+    event = turn (record { looks = λ X. refl; slots = λ j. refl }) missing-passes missing-verdict;
+  }
 
 -- ---- a request whose record is judged
 
@@ -156,16 +181,26 @@ module _ (w : World) (mail : List ℕ) (q : Request) (g : Judging w q mail) wher
   verdict : (v : Verdict) → permissionIn (w .hca .logs) (w .memory) q ≡ v → num (one q front) (lookAt w) ≡ number (verdictNumber v)
   unfolding front permissionIn
   verdict v e =
-      ap (λ (b : Bool). gatedBy (gateBytes b (w .hca .logs)) (number (verdictNumber (permissionOf q (lookAt w (at (recordOf q)))))))
+      ap (λ (b : Bool). let o : List ℕ = gateBytes b (w .hca .logs) in
+      gatedBy o (pick (fits (qpCount o) (cqCount o) (eqCount o) q (recordsIn (lookAt w)))
+      (number (verdictNumber (permissionOf q (lookAt w (at (recordOf q)))))) stale))
       (g .asking .opened)
+      ∙ ap (λ (b : Bool). pick b (number (verdictNumber (permissionOf q (lookAt w (at (recordOf q)))))) stale)
+      (fits-local (qpsOf w) (cqsOf w) (eqsOf w) q (recordsIn (lookAt w)) (recordIn (w .hca .logs) (w .memory))
+      (λ X y. look-valid w X (all-in (w .hca .logs) X (recordsOf q) (g .asking .all) y)) ∙ g .asking .named)
       ∙ ap (λ (c : List ℕ). number (verdictNumber (permissionOf q c))) (look-valid w (recordOf q) (g .asking .valid))
       ∙ ap (λ (x : Verdict). number (verdictNumber x)) e
 
-  pub denied-ok : (v : Verdict) → permissionIn (w .hca .logs) (w .memory) q ≡ v → Fine w w (sent (fed q mail) (number (verdictNumber v)))
+  -- what the book is fed
+  fed-is : onRecord (argumentsOf q) front ≡ fed (argumentsOf q) mail
   unfolding front
+  fed-is = ap (λ (i : ℕ). onRecord (argumentsOf q) (part 0 i mail)) (sym (need-arguments q))
+
+  pub denied-ok : (v : Verdict) → permissionIn (w .hca .logs) (w .memory) q ≡ v
+      → Fine w w (sent (fed (argumentsOf q) mail) (number (verdictNumber v)))
   denied-ok v e = record {
     note = _;
-    tells = refl;
+    tells = ap (λ (f : Fed). sent f (number (verdictNumber v))) fed-is;
     ended = [];
     event = turn (record { looks = λ X. refl; slots = λ j. refl }) (passes-all w q front (g .free)) (verdict v e);
   }
@@ -180,8 +215,8 @@ module _ (w : World) (mail : List ℕ) (q : Request) (g : Judging w q mail) wher
     k8 : k < slotCount
     k8 = omega (arith, l .inside, judge-sized .rowed)
 
-    fits : length front ≤ slotRoom
-    fits = omega (arith, long, need-small q)
+    short : length front ≤ slotRoom
+    short = omega (arith, long, need-small q)
 
     was : statusAt k (w .row) ≡ Free
     unfolding statusAt
@@ -193,18 +228,18 @@ module _ (w : World) (mail : List ℕ) (q : Request) (g : Judging w q mail) wher
 
     front-here : frontOf k q (u .room) ≡ front
     unfolding u worldTaken front
-    front-here = front-filled k front (w .room) k8 (judge-sized .roomed) fits q long
+    front-here = front-filled k front (w .room) k8 (judge-sized .roomed) short q long
 
     buffer : length (roomOf k (u .room)) ≡ slotRoom
     unfolding u worldTaken front
-    buffer = length-room k (u .room) k8 (omega (arith, judge-sized .roomed, length-filled k front (w .room) k8 (judge-sized .roomed) fits))
+    buffer = length-room k (u .room) k8 (omega (arith, judge-sized .roomed, length-filled k front (w .room) k8 (judge-sized .roomed) short))
 
     but : (j : ℕ) → ¬ (j ≡ k) → slotAt u j ≡ slotAt w j
     unfolding u worldTaken front
     but =
         others w u k (slot (Running 0 q)) judge-sized refl
-        (λ j h d. other-filled k front (w .room) k8 (judge-sized .roomed) fits j h d)
-        (λ j r h d. other-front-filled k front (w .room) k8 (judge-sized .roomed) fits j r h d)
+        (λ j h d. other-filled k front (w .room) k8 (judge-sized .roomed) short j h d)
+        (λ j r h d. other-front-filled k front (w .room) k8 (judge-sized .roomed) short j r h d)
 
     looks : (X : Place) → lookAt u X ≡ lookAt w X
     unfolding u worldTaken
@@ -216,11 +251,18 @@ module _ (w : World) (mail : List ℕ) (q : Request) (g : Judging w q mail) wher
         ∙ length-recordIn (w .hca .logs) (w .memory)
         (open-fits w (g .asking .passing .lent) (g .asking .passing .possible) (g .asking .opened)) (recordOf q) (g .asking .valid)
 
-    pub taken-ok : Fine w (worldTaken w q mail k) (into (fed q mail) k)
-    unfolding u front
+    stored-all : length (join (recordsOf q) (lookAt w)) ≡ joinedSize (recordsOf q)
+    stored-all =
+        let all : AllRecords (w .hca .logs) (recordsOf q) = all-records (w .hca .logs) (recordsOf q) (g .asking .all) in
+        ap length (look-joined w (recordsOf q) all)
+        ∙ length-joinedIn (w .hca .logs) (w .memory)
+        (open-fits w (g .asking .passing .lent) (g .asking .passing .possible) (g .asking .opened)) (recordsOf q) all
+
+    pub taken-ok : Fine w (worldTaken w q mail k) (into (fed (argumentsOf q) mail) k)
+    unfolding u
     taken-ok = record {
       note = _;
-      tells = refl;
+      tells = ap (λ (f : Fed). into f k) fed-is;
       ended = [];
       event =
           take (left (burstsOf q) (roomOf k (u .room))) looks (ap (slotView k (w .room)) was)
@@ -228,7 +270,7 @@ module _ (w : World) (mail : List ℕ) (q : Request) (g : Judging w q mail) wher
           but
           (passes-all w q front (g .free))
           (verdict Permitted permitted)
-          (begun q front (roomOf k (u .room)) (lookAt w) (omega (arith, long)) stored buffer (writesOf q) refl);
+          (begun q front (roomOf k (u .room)) (lookAt w) (omega (arith, long)) stored stored-all buffer (writesOf q) refl);
     }
 
 -- ---- commands that are done at once
@@ -285,12 +327,24 @@ quiet mail asksNop c e = refl
 quiet mail (asksRequest q) c e = rw e
 quiet mail asksNothing c e = refl
 
+-- and every denial is
+of-state : (d : Denial) → ofState d ≡ true
+of-state denial.Edge = refl
+of-state denial.Owner = refl
+of-state denial.Name = refl
+
+pub denied-noted : (mail : List ℕ) (a : Arguments) (d : Denial)
+    → refusedNote (fed a mail) (denialNumber d) ≡ submitNote mail (asksRequest a) (submit.Refused (cause.Denied d))
+denied-noted mail a d = rw (of-state d)
+
 -- whatever is decided but an initialisation, once applied, is an event
 pub applied-ok : (w : World) (mail : List ℕ) (a : Asked) (d : Decision) → Decided w mail a d
     → pick (isInit a) (isDone (applied w mail d .answer)) false ≡ false
     → Fine w (applied w mail d .world) (noteFor (submitNote mail a (applied w mail d .answer)))
 applied-ok w mail a d (plain {a = x} c e) i = subst (λ (n : Note). Fine w w (noteFor n)) (quiet mail x c e) (stays w)
-applied-ok w mail a d (denied {q = q} {d = y} g e) i = denied-ok w mail q g (Denied y) e
+applied-ok w mail a d (denied {q = q} {d = y} g e) i =
+    subst (λ (n : Note). Fine w w (noteFor n)) (denied-noted mail (argumentsOf q) y) (denied-ok w mail q g (Denied y) e)
+applied-ok w mail a d (misnamed {n = n} {t = t} g) i = missing-ok w mail n t g
 applied-ok w mail a d (takes {q = q} {k = k} g e f) i = taken-ok w mail q g k f e
 applied-ok w mail a d (closes o n) i = closed-ok w o n
 applied-ok w mail a d rests i = nop-ok w

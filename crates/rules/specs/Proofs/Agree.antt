@@ -148,5 +148,6 @@ whole-bytes (request.Command (command.ModifyQp e n)) mail r h w = edge-bytes mai
 whole-bytes (request.Engine (engine.ReadState n)) mail r h w = sym (map-same 0 r)
 whole-bytes (request.Engine (engine.ReadNext n)) mail r h w = sym (map-same 0 r)
 whole-bytes (request.Engine (engine.ReadAll n)) mail r h w = sym (map-same 0 r)
+whole-bytes (request.Engine (engine.ReadJoined n c e)) mail r h w = sym (map-same 0 r)
 whole-bytes (request.Engine (engine.Write p s n psn)) mail r h w =
     state-over s (psnByte (psnPlace p) psn) (psnEffect p psn r) r (omega arith) (psn-bytes p psn r w)

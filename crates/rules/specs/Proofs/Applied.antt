@@ -17,7 +17,7 @@ use Rattle.mailboxes.specs.Mailboxes.{needOf}
 use Rattle.burst_table.specs.Sizes.{slotCount, slotRoom}
 use Rattle.burst_table.specs.Laws.{need-small}
 use Rattle.bursts.specs.Room.{roomOf, length-filled, own-filled, outside-filled}
-use Rattle.records.specs.Memory.{Behind, Fits}
+use Rattle.records.specs.Memory.{Behind, Fits, recordIn}
 use Rattle.records.specs.Laws.{length-zeroed, zeroed-behind}
 use Rattle.slots.specs.Slots.{slot, accepted as running}
 use Rattle.slots.specs.declared.Slot.{Slot}
@@ -30,20 +30,19 @@ use Rattle.rules.specs.declared.SubmitAnswer.the-variants as submit
 use Rattle.rules.specs.Numbers.{forState}
 use Rattle.rules.specs.World.{World, statusAt}
 use Rattle.rules.specs.Admission.{Submitted, submitted, worldOpened, worldClosed, worldTaken, applied}
+use Rattle.rules.specs.Names.{Arguments, argumentsOf, readJoined, needed, namedIn}
 use Rattle.rules.specs.Book.{Fed, onRecord, closeHca, nop}
 use Rattle.rules.specs.Calls.{Note, nothing, refused, accepted, finished, submitted as answers, Asked}
 use Rattle.rules.specs.Calls.{asksClose, asksNop, asksRequest, fed, submitNote, isDone, isInit}
-use Rattle.rules.specs.Frames.{refusedSubmit, takesSlot}
+use Rattle.rules.specs.Frames.{refusedSubmit, takesSlot, Taken}
 use Rattle.rules.specs.Laws.Lent.{Sized, lent-sized}
-use Rattle.rules.specs.Laws.Decided.{Judging, Decided, plain, denied, takes, closes, rests, opens}
-use Rattle.rules.specs.Proofs.Admitted.{quiet}
+use Rattle.rules.specs.Laws.Named.{need-arguments, fits-found}
+use Rattle.rules.specs.Laws.Decided.{Judging, Decided, plain, denied, takes, closes, rests, opens, misnamed}
+use Rattle.rules.specs.Proofs.Admitted.{quiet, denied-noted}
 
 abbrev pub SizesKept : World → World → Type 0
 SizesKept w u =
     (length (u .row) ≡ length (w .row)) × (length (u .memory .store) ≡ length (w .memory .store)) × (length (u .room) ≡ length (w .room))
-
-abbrev pub TakenAs : Request → List ℕ → ℕ → World → World → Type 0
-TakenAs q front k w u = (statusAt k (u .row) ≡ Running 0 q) × (roomOf k (u .room) ≡ splice 0 front (roomOf k (w .room)))
 
 -- not an initialisation
 abbrev NoInit : Asked → SubmitAnswer → Type 0
@@ -58,7 +57,7 @@ pub record AppliedKept (w : World) (mail : List ℕ) (a : Asked) (x : SubmitAnsw
   pub rowed : (j : ℕ) → takesSlot (answers x) j ≡ false → statusAt j (u .row) ≡ statusAt j (w .row)
   pub opened : isDone x ≡ false → u .hca ≡ w .hca
   pub sizes : SizesKept w u
-  pub taken : (q : Request) (front : List ℕ) (k : ℕ) → submitNote mail a x ≡ accepted (onRecord q front) k → TakenAs q front k w u
+  pub taken : (b : Arguments) (front : List ℕ) (k : ℕ) → submitNote mail a x ≡ accepted (onRecord b front) k → Taken w u b front k
 
 pub not-same : (k j : ℕ) → eqb k j ≡ false → ¬ (j ≡ k)
 not-same k j e f = true≢false (sym (eq-eqb k j (sym f)) ∙ e)
@@ -71,7 +70,7 @@ set-other row k j s e = ap (λ (x : Slot). x .status) (getD-set-other row k j s 
 -- ---- nothing changes
 
 same-kept : (w : World) (mail : List ℕ) (a : Asked) (x : SubmitAnswer)
-    → ((q : Request) (front : List ℕ) (k : ℕ) → submitNote mail a x ≡ accepted (onRecord q front) k → ⊥) → AppliedKept w mail a x w
+    → ((q : Arguments) (front : List ℕ) (k : ℕ) → submitNote mail a x ≡ accepted (onRecord q front) k → ⊥) → AppliedKept w mail a x w
 same-kept w mail a x n = record {
   refusal = λ _. refl;
   stored = λ _. refl;
@@ -107,30 +106,36 @@ module _ (w : World) (mail : List ℕ) (q : Request) (k : ℕ) (g : Judging w q 
   unfolding worldTaken
   take-length = length-filled k (part 0 (needOf q) mail) (w .room) below (z .roomed) fits
 
-  take-as : TakenAs q (part 0 (needOf q) mail) k w (worldTaken w q mail k)
+  take-runs : statusAt k (worldTaken w q mail k .row) ≡ Running 0 q
   unfolding worldTaken statusAt
-  take-as = (
-    ap (λ (s : Slot). s .status) (getD-set-same (w .row) k (slot (Running 0 q)) (slot Free) (l .inside)),
-    own-filled k (part 0 (needOf q) mail) (w .room) below (z .roomed) fits,
-  )
+  take-runs = ap (λ (s : Slot). s .status) (getD-set-same (w .row) k (slot (Running 0 q)) (slot Free) (l .inside))
 
-  same-note : (r : Request) (front : List ℕ) (j : ℕ) → accepted (fed q mail) k ≡ accepted (onRecord r front) j
-      → TakenAs r front j w (worldTaken w q mail k)
-  same-note r front j e =
-      let a : q ≡ r = cc in
-      let b : part 0 (needOf q) mail ≡ front = cc in
-      let c : k ≡ j = cc in
-      moved r front j a b c take-as
+  take-filled : roomOf k (worldTaken w q mail k .room) ≡ splice 0 (part 0 (needed (argumentsOf q)) mail) (roomOf k (w .room))
+  unfolding worldTaken
+  take-filled =
+      own-filled k (part 0 (needOf q) mail) (w .room) below (z .roomed) fits
+      ∙ ap (λ (n : ℕ). splice 0 (part 0 n mail) (roomOf k (w .room))) (sym (need-arguments q))
+
+  same-note : (a : Arguments) (front : List ℕ) (j : ℕ) → accepted (fed (argumentsOf q) mail) k ≡ accepted (onRecord a front) j
+      → Taken w (worldTaken w q mail k) a front j
+  same-note a front j e =
+      let x : argumentsOf q ≡ a = cc in
+      let y : part 0 (needed (argumentsOf q)) mail ≡ front = cc in
+      let i : k ≡ j = cc in
+      moved a front j x y i
     where
-      moved : (r : Request) (front : List ℕ) (j : ℕ) → q ≡ r → part 0 (needOf q) mail ≡ front → k ≡ j
-          → TakenAs q (part 0 (needOf q) mail) k w (worldTaken w q mail k) → TakenAs r front j w (worldTaken w q mail k)
-      moved r front j a b c t = (
-        ap (λ (i : ℕ). statusAt i (worldTaken w q mail k .row)) (sym c) ∙ t .0 ∙ ap (Running 0) a,
-        ap (λ (i : ℕ). roomOf i (worldTaken w q mail k .room)) (sym c) ∙ t .1
-            ∙ ap (λ (f : List ℕ). splice 0 f (roomOf k (w .room))) b ∙ ap (λ (i : ℕ). splice 0 front (roomOf i (w .room))) c,
-      )
+      moved : (a : Arguments) (front : List ℕ) (j : ℕ) → argumentsOf q ≡ a → part 0 (needed (argumentsOf q)) mail ≡ front → k ≡ j
+          → Taken w (worldTaken w q mail k) a front j
+      moved a front j x y i = record {
+        request = q;
+        named = ap (namedIn (w .hca .logs) (recordIn (w .hca .logs) (w .memory))) (sym x)
+            ∙ fits-found (w .hca .logs) (recordIn (w .hca .logs) (w .memory)) q (g .asking .named);
+        runs = ap (λ (n : ℕ). statusAt n (worldTaken w q mail k .row)) (sym i) ∙ take-runs;
+        filled = ap (λ (n : ℕ). roomOf n (worldTaken w q mail k .room)) (sym i) ∙ take-filled
+            ∙ ap (λ (f : List ℕ). splice 0 f (roomOf k (w .room))) y ∙ ap (λ (n : ℕ). splice 0 front (roomOf n (w .room))) i;
+      }
 
-  take-kept : AppliedKept w mail (asksRequest q) (submit.Accepted k) (worldTaken w q mail k)
+  take-kept : AppliedKept w mail (asksRequest (argumentsOf q)) (submit.Accepted k) (worldTaken w q mail k)
   unfolding worldTaken
   take-kept = record {
     refusal = λ e. absurd (false≢true e);
@@ -147,7 +152,7 @@ module _ (w : World) (mail : List ℕ) (q : Request) (k : ℕ) (g : Judging w q 
 -- ---- an initialisation
 
 open-kept : (w : World) (mail : List ℕ) (a : Asked) (g : Logs) → isInit a ≡ true → Fits g (w .memory)
-    → ((q : Request) (front : List ℕ) (k : ℕ) → submitNote mail a submit.Done ≡ accepted (onRecord q front) k → ⊥)
+    → ((q : Arguments) (front : List ℕ) (k : ℕ) → submitNote mail a submit.Done ≡ accepted (onRecord q front) k → ⊥)
     → AppliedKept w mail a submit.Done (worldOpened w g)
 unfolding worldOpened
 open-kept w mail a g i f n = record {
@@ -178,18 +183,21 @@ close-kept w mail = record {
 
 -- ---- every decision
 
-denied-note : (q : Request) (mail : List ℕ) (n : ℕ) (r : Request) (front : List ℕ) (k : ℕ)
+denied-note : (q : Arguments) (mail : List ℕ) (n : ℕ) (r : Arguments) (front : List ℕ) (k : ℕ)
     → refused (fed q mail) n ≡ accepted (onRecord r front) k → ⊥
 denied-note q mail n r front k e = let z : _≡_ {A = ℕ} 0 1 = cc in omega arith
 
-finished-note : (f : Fed) (b : List ℕ) (r : Request) (front : List ℕ) (k : ℕ) → finished f b ≡ accepted (onRecord r front) k → ⊥
+finished-note : (f : Fed) (b : List ℕ) (r : Arguments) (front : List ℕ) (k : ℕ) → finished f b ≡ accepted (onRecord r front) k → ⊥
 finished-note f b r front k e = let z : _≡_ {A = ℕ} 0 1 = cc in omega arith
 
 pub applied-kept : (w : World) (mail : List ℕ) (a : Asked) (d : Decision) → Decided w mail a d
     → AppliedKept w mail a (applied w mail d .answer) (applied w mail d .world)
 applied-kept w mail a d (plain {a = x} c e) =
     same-kept w mail x (submit.Refused c) (λ q front k g. not-accepted _ (onRecord q front) k (quiet mail x c e) g)
-applied-kept w mail a d (denied {q = q} g e) = same-kept w mail (asksRequest q) _ (denied-note q mail _)
+applied-kept w mail a d (denied {q = q} {d = y} g e) =
+    same-kept w mail (asksRequest (argumentsOf q)) _
+    (λ r front k f. denied-note (argumentsOf q) mail _ r front k (denied-noted mail (argumentsOf q) y ∙ f))
+applied-kept w mail a d (misnamed {n = n} g) = same-kept w mail (asksRequest (readJoined n)) _ (denied-note (readJoined n) mail _)
 applied-kept w mail a d (takes {q = q} {k = k} g e f) = take-kept w mail q k g (lowest-free-is (w .row) k f)
 applied-kept w mail a d (closes o n) = close-kept w mail
 applied-kept w mail a d rests = same-kept w mail asksNop submit.Done (finished-note nop [])

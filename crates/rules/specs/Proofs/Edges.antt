@@ -24,6 +24,8 @@ use Rattle.requests.specs.declared.EngineRequest.the-variants as engine
 use Rattle.requests.specs.declared.Request.{Request}
 use Rattle.requests.specs.declared.Request.the-variants as request
 use Rattle.request_table.specs.Records.{recordOf, recordsOf, writesOf}
+use Rattle.request_table.specs.Listed.{In}
+use Rattle.request_table.specs.Laws.{own-in}
 use Rattle.burst_table.specs.Bursts.{burstsOf, totalOf}
 use Rattle.burst_table.specs.Sizes.{burstSize, slotCount}
 use Rattle.burst_table.specs.Touched.{fit-at}
@@ -56,7 +58,7 @@ use Rattle.rules.specs.Demand3.{Entry, noted, Run, runFrom}
 use Rattle.rules.specs.Frames.{Change, kept, burstMoved}
 use Rattle.rules.specs.Demand2.{Along, StateMove, stays, moves, Statement}
 use Rattle.rules.specs.Laws.Lent.{running}
-use Rattle.rules.specs.Laws.Decided.{Decided, plain, denied, takes, closes, rests, opens, command-decided, engine-decided}
+use Rattle.rules.specs.Laws.Decided.{Decided, plain, denied, takes, closes, rests, opens, command-decided, engine-decided, misnamed}
 use Rattle.rules.specs.Laws.Outcomes.{Stepping, step-is, collect-is, reset-is}
 use Rattle.rules.specs.Proofs.Moved.{step-sized, step-slot, step-runs, other-stays}
 use Rattle.rules.specs.Proofs.Events.{no-init, number-no-init}
@@ -131,6 +133,7 @@ applied-judged : (w : World) (mail : List ℕ) (a : Asked) (d : Decision) → Ju
 unfolding worldClosed
 applied-judged w mail a d i (plain c e) n = i
 applied-judged w mail a d i (denied g e) n = i
+applied-judged w mail a d i (misnamed g) n = i
 applied-judged w mail a d i (takes {q = q} {k = k} g e f) n = judged-taken w q mail k i e
 applied-judged w mail a d i (closes o m) n = judged-same w (worldClosed w) refl refl refl i
 applied-judged w mail a d i rests n = i
@@ -158,8 +161,8 @@ module _ (w : World) (k : ℕ) (q : Request) (m : ℕ) (s : Stepping w k q m) wh
   unfolding badState statusAt
   record-kept j r d e =
       other-stays w k q m s (recordOf r) (running w (s .possible) (s .opened) j r 0 e .valid)
-      (λ wr y. writer-alone (w .hca) (w .row) (s .opened) (s .possible) k j (λ h. d (sym h)) q m r 0 (s .now) e (recordOf r) (inl y)
-      (inl refl) wr)
+      (λ wr y. writer-alone (w .hca) (w .row) (s .opened) (s .possible) k j (λ h. d (sym h)) q m r 0 (s .now) e (recordOf r)
+      (subst (λ (X : Record). In X (recordsOf q)) y (own-in q)) (own-in r) wr)
 
   burst-judged : Judged w → Judged (worldMoved w k q m)
   unfolding Judged worldMoved slotMoved permissionIn
@@ -241,6 +244,7 @@ first-along (request.Command (command.ModifyQp e x)) n mail before l y wr p = (
 first-along (request.Engine (engine.ReadState x)) n mail before l y wr p = absurd (false≢true wr)
 first-along (request.Engine (engine.ReadNext x)) n mail before l y wr p = absurd (false≢true wr)
 first-along (request.Engine (engine.ReadAll x)) n mail before l y wr p = absurd (false≢true wr)
+first-along (request.Engine (engine.ReadJoined x c e)) n mail before l y wr p = absurd (false≢true wr)
 first-along (request.Engine (engine.Write f s x psn)) n mail before l y wr p = (
   permission-holds (request.Engine (engine.Write f s x psn)) before p,
   state-first (request.Engine (engine.Write f s x psn)) s refl mail before l,
@@ -270,7 +274,7 @@ state-moves w c n before after i b (burstMoved k q (suc m) e f h wr y l g) =
       arith,
       l,
       ap (λ (X : Record). recordSize X) y,
-      fit-at (recordSize (recordOf q)) (burstsOf q) (suc m) (bursts-fit q)
+      fit-at (recordSize (recordOf q)) (burstsOf q) (suc m) (bursts-fit q wr)
           (omega (arith, total-bursts q)),
     ))
     (bursts-later q (suc m) h (omega arith)))

@@ -19,6 +19,7 @@ use Rattle.engines.specs.declared.NumberFound.the-variants as number
 use Rattle.request_table.specs.Records.{writesOf}
 use Rattle.burst_table.specs.Bursts.{totalOf}
 use Rattle.burst_table.specs.Sizes.{slotCount}
+use Rattle.burst_table.specs.Laws.{records-room}
 use Rattle.answers.specs.Answers.{answerSize}
 use Rattle.answers.specs.Laws.{length-answer}
 use Rattle.bursts.specs.Room.{roomOf, frontOf, length-room}
@@ -71,7 +72,9 @@ module _ (w : World) (k : ℕ) (out : List ℕ) (q : Request) (c : Collecting w 
 
   pub answer-long : length (answerAt w k q) ≡ answerSize q
   unfolding answerAt
-  answer-long = length-answer q (roomOf k (w .room)) (omega (arith, length-room k (w .room) collect-slot (collect-sized .roomed)))
+  answer-long =
+      length-answer q (roomOf k (w .room))
+      (omega (arith, length-room k (w .room) collect-slot (collect-sized .roomed), records-room q))
 
   -- the front of the buffer is the answer
   wrote : take (answerSize q) (splice 0 (answerAt w k q) out) ≡ answerAt w k q
@@ -115,6 +118,7 @@ no-init a b e = rw e
 
 found-no-init : (f : EngineFound) → isInit (engineFoundAsked f) ≡ false
 found-no-init (engine.OnRecord e) = refl
+found-no-init (engine.Joined n) = refl
 found-no-init engine.Wrong = refl
 
 pub number-no-init : (w : World) (index psn code : ℕ) (f : NumberFound) → isInit (numberAsked (w .hca .logs) index psn code f) ≡ false

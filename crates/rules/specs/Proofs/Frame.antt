@@ -41,6 +41,7 @@ use Rattle.rules.specs.Engines.{decideEngine, submitEngine}
 use Rattle.rules.specs.Steps.{Stepped, slotMoved, worldMoved, stepOf}
 use Rattle.rules.specs.Collections.{Collected, answerAt, worldFreed, collectOf}
 use Rattle.rules.specs.Resets.{Reset, resetOf}
+use Rattle.rules.specs.Names.{Arguments}
 use Rattle.rules.specs.Book.{onRecord}
 use Rattle.rules.specs.Calls.{Note, nothing, accepted, Call, command, engineRequest, step, collection, resetting}
 use Rattle.rules.specs.Calls.{resetDone, commandAsked, engineAsked, collectNote, isDone, isInit, initialises}
@@ -283,12 +284,12 @@ emptied w resetting e =
 
 -- ---- a request that is accepted
 
-not-collected : (r : Request) (front : List ℕ) (k j : ℕ) (out : List ℕ) (a : CollectAnswer)
+not-collected : (r : Arguments) (front : List ℕ) (k j : ℕ) (out : List ℕ) (a : CollectAnswer)
     → collectNote j out a ≡ accepted (onRecord r front) k → ⊥
 not-collected r front k j out (collecting.Collected n) e = let z : _≡_ {A = ℕ} 0 1 = cc in omega arith
 not-collected r front k j out (collecting.Refused c) e = let z : _≡_ {A = ℕ} 0 1 = cc in omega arith
 
-not-nothing : (r : Request) (front : List ℕ) (k : ℕ) → nothing ≡ accepted (onRecord r front) k → ⊥
+not-nothing : (r : Arguments) (front : List ℕ) (k : ℕ) → nothing ≡ accepted (onRecord r front) k → ⊥
 not-nothing r front k e = let z : _≡_ {A = ℕ} 0 1 = cc in omega arith
 
 pub slot-taken : SlotTaken

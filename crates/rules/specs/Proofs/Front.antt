@@ -17,6 +17,13 @@ use Rattle.hcr.specs.declared.HcrCommand.{HcrCommand}
 use Rattle.hcr.specs.declared.ReadAnswer.{ReadAnswer}
 use Rattle.hcr.specs.declared.ReadAnswer.the-variants as hcr
 use Rattle.context.specs.Counts.{init-left}
+use Rattle.context.specs.declared.CqNumber.{CqNumber}
+use Rattle.context.specs.declared.QpNumber.{QpNumber}
+use Rattle.context.specs.declared.Record.the-variants as rec
+use Rattle.numbers.specs.declared.CqFound.{CqFound}
+use Rattle.numbers.specs.declared.CqFound.the-variants as cqFound
+use Rattle.numbers.specs.declared.EqFound.{EqFound}
+use Rattle.numbers.specs.declared.EqFound.the-variants as eqFound
 use Rattle.requests.specs.declared.Request.{Request}
 use Rattle.requests.specs.declared.Request.the-variants as request
 use Rattle.commands.specs.Commands.{readOp, readCommand}
@@ -44,7 +51,7 @@ use Rattle.records.specs.Memory.{Memory, written, readOut, permissionIn}
 use Rattle.slots.specs.Slots.{slot, accepted, leftOf}
 use Rattle.slots.specs.declared.Status.{Status}
 use Rattle.slots.specs.declared.Status.the-variants.{Free, Running, Finished}
-use Rattle.holds.specs.Holds.{heldAgainst}
+use Rattle.holds.specs.Holds.{heldAgainst, readHeld}
 use Rattle.rows.specs.Laws.{Lowest, lowest-free-is}
 use Rattle.rules.specs.declared.Decision.{Decision}
 use Rattle.rules.specs.declared.Decision.the-variants as decide
@@ -56,7 +63,7 @@ use Rattle.rules.specs.World.{World, withRoom, storeLength, statusAt, ba
 use Rattle.rules.specs.Admission.{Submitted, submitted, worldOpened, worldClosed, worldTaken}
 use Rattle.rules.specs.Admission.{applied, decidePlace, decideVerdict, decideRequest}
 use Rattle.rules.specs.Commands.{decideInit, decideFound, badSystem, busy, decideOp, decideRegister, decideCommand, submitCommand}
-use Rattle.rules.specs.Engines.{decideAsked, decideNumber, decideEngine, submitEngine}
+use Rattle.rules.specs.Engines.{decideAsked, decideNumber, decideEngine, submitEngine, decideEq, decideCq, decideJoined}
 use Rattle.rules.specs.Steps.{Stepped, stepped, stepRefused, memoryMoved, roomMoved, slotMoved, worldMoved, stepOn, stepOf}
 use Rattle.rules.specs.Collections.{Collected, collected, collectRefused, answerAt, worldFreed, collectFinished, collectOn, collectOf}
 use Rattle.rules.specs.Resets.{Reset, resetted, worldReset, resetOf}
@@ -65,7 +72,7 @@ use Rattle.rules.specs.Calls.{foundAsked, opAsked, registerAsked, comman
 use Rattle.rules.specs.Calls as calls
 use Rattle.rules.specs.Frames.{neededBy, MailboxFront, RegisterFront, RoomFront}
 use Rattle.rules.specs.Laws.Lent.{Sized, lent-sized, in-row}
-use Rattle.rules.specs.Laws.Decided.{Decided, plain, denied, takes, closes, rests, opens, command-decided, engine-decided}
+use Rattle.rules.specs.Laws.Decided.{Decided, plain, denied, takes, closes, rests, opens, command-decided, engine-decided, misnamed}
 use Rattle.rules.specs.Laws.Outcomes.{Stepping, running-open}
 use Rattle.rules.specs.Proofs.Moved.{step-sized, step-slot, in-part}
 
@@ -115,6 +122,7 @@ module _ (w : World) (mail t : List ℕ) where
   unfolding worldTaken
   applied-front a d (plain c e) = refl
   applied-front a d (denied g e) = refl
+  applied-front a d (misnamed g) = refl
   applied-front a d (takes {q = q} {k = k} g e f) =
       ap (λ (ys : List ℕ). submitted (applied w mail (decide.Take q k) .answer)
       (withRoom (worldTaken w q mail k) (roomFilled k ys (w .room))))
@@ -193,9 +201,24 @@ module _ (w : World) (t : List ℕ) (roomed : roomSize ≤ length (w .room)) whe
       ap₂ (λ (b : Bool) (d : Decision). pick (either b (ltb (length bytes) 28)) (decide.Refuse cause.BadLength)
       (pick (badState w) (decide.Refuse cause.Impossible) d)) lent-same (register-same mail (readOf bytes))
 
+  eq-same : (n : QpNumber) (c : CqNumber) (x : EqFound) → decideEq v n c x ≡ decideEq w n c x
+  unfolding decideEq
+  eq-same n c (eqFound.Number e) = refl
+  eq-same n c eqFound.OutOfRange = refl
+
+  cq-same : (n : QpNumber) (x : CqFound) → decideCq v n x ≡ decideCq w n x
+  unfolding decideCq
+  cq-same n (cqFound.Number c) = ap (pick (readHeld (w .row) (rec.Cq c)) (decide.Refuse cause.Held)) (eq-same n c _)
+  cq-same n cqFound.OutOfRange = refl
+
+  joined-same : (n : QpNumber) → decideJoined v n ≡ decideJoined w n
+  unfolding decideJoined
+  joined-same n = ap (pick (readHeld (w .row) (rec.Qp n)) (decide.Refuse cause.Held)) (cq-same n _)
+
   asked-same : (f : EngineFound) → decideAsked v f ≡ decideAsked w f
   unfolding decideAsked
   asked-same (engine.OnRecord e) = request-same (request.Engine e) []
+  asked-same (engine.Joined n) = joined-same n
   asked-same engine.Wrong = refl
 
   number-same : (index psn code : ℕ) (f : NumberFound) → decideNumber v index psn code f ≡ decideNumber w index psn code f
@@ -216,6 +239,7 @@ module _ (w : World) (t : List ℕ) (roomed : roomSize ≤ length (w .room)) whe
   unfolding worldTaken worldClosed worldOpened
   applied-tail mail a d (plain c e) = refl
   applied-tail mail a d (denied g e) = refl
+  applied-tail mail a d (misnamed g) = refl
   applied-tail mail a d (takes {q = q} {k = k} g e f) =
       ap (λ (r : List ℕ). submitted (applied w mail (decide.Take q k) .answer) (withRoom (worldTaken w q mail k) r))
       (filled-tail k (part 0 (needOf q) mail) (w .room) below roomed fits t)

@@ -34,7 +34,7 @@ use Rattle.rules.specs.Calls.{answerTo, worldAfter, Note, nothing, finis
 use Rattle.rules.specs.Calls.{collectNote, noteOf, isDone, isInit, initialises, begins, resetEnds, stops}
 use Rattle.rules.specs.Lending.{Lent, LentCall, lend, giveBack, answerLent, worldLent, beginsLent, stopsLent, proper}
 use Rattle.rules.specs.Laws.Lent.{Sized, sized, lent-sized, lent-store, closed-free}
-use Rattle.rules.specs.Laws.Decided.{Decided, plain, denied, takes, closes, rests, opens, command-decided, engine-decided}
+use Rattle.rules.specs.Laws.Decided.{Decided, plain, denied, takes, closes, rests, opens, command-decided, engine-decided, misnamed}
 use Rattle.rules.specs.Laws.Outcomes.{Stepping, Collecting, step-is, collect-is, reset-is}
 use Rattle.rules.specs.Proofs.Admitted.{quiet}
 use Rattle.rules.specs.Proofs.Events.{no-init, number-no-init}
@@ -118,6 +118,7 @@ applied-shut : (w : World) (mail : List ℕ) (a : Asked) (d : Decision) → w .h
     × ((submitNote mail a (applied w mail d .answer) ≡ nothing) ⊎ (submitNote mail a (applied w mail d .answer) ≡ finished nop []))
 applied-shut w mail a d o (plain {a = x} c e) i = (refl, inl (sym (quiet mail x c e)))
 applied-shut w mail a d o (denied g e) i = shut-open w o (g .asking .opened)
+applied-shut w mail a d o (misnamed g) i = shut-open w o (g .opened)
 applied-shut w mail a d o (takes g e f) i = shut-open w o (g .asking .opened)
 applied-shut w mail a d o (closes p n) i = shut-open w o p
 applied-shut w mail a d o rests i = (refl, inr refl)

@@ -50,7 +50,7 @@ module _ (w : World) (k : ℕ) (q : Request) (m : ℕ) (s : Stepping w k q m) wh
   step-slot = in-row w step-sized k (no-free q m (statusAt k (w .row)) (s .now))
 
   pub step-all : AllRecords (w .hca .logs) (recordsOf q)
-  step-all = all-records (w .hca .logs) q (step-runs .valid)
+  step-all = all-records (w .hca .logs) (recordsOf q) (step-runs .all)
 
   -- ---- the slot
 
@@ -99,7 +99,7 @@ module _ (w : World) (k : ℕ) (q : Request) (m : ℕ) (s : Stepping w k q m) wh
       ≡ burst (byteOf q (frontOf k q (w .room))) (getD (burstsOf q) m 0) (recordIn (w .hca .logs) (w .memory) (recordOf q))
   write-own wr =
       ap (λ (x : Memory). recordIn (w .hca .logs) x (recordOf q)) (write-memory wr)
-      ∙ own-written (w .hca .logs) (w .memory) q (frontOf k q (w .room)) m step-fits (step-runs .valid) (step-runs .more)
+      ∙ own-written (w .hca .logs) (w .memory) q (frontOf k q (w .room)) m step-fits wr (step-runs .valid) (step-runs .more)
 
   -- ---- a reader
 
@@ -150,7 +150,8 @@ module _ (w : World) (k : ℕ) (q : Request) (m : ℕ) (s : Stepping w k q m) wh
           → recordIn (w .hca .logs) (worldMoved w k q m .memory) X ≡ recordIn (w .hca .logs) (w .memory) X
       go true wr =
           ap (λ (x : Memory). recordIn (w .hca .logs) x X) (write-memory wr)
-          ∙ other-written (w .hca .logs) (w .memory) q (frontOf k q (w .room)) m step-fits (step-runs .valid) (step-runs .more) X v (n wr)
+          ∙ other-written (w .hca .logs) (w .memory) q (frontOf k q (w .room)) m step-fits wr (step-runs .valid) (step-runs .more) X v
+          (n wr)
       go false rd = ap (λ (x : Memory). recordIn (w .hca .logs) x X) (read-memory rd)
 
   -- a byte of the store outside the burst that a write makes, and one behind the records
@@ -161,7 +162,8 @@ module _ (w : World) (k : ℕ) (q : Request) (m : ℕ) (s : Stepping w k q m) wh
       go : (b : Bool) → writesOf q ≡ b → getD (worldMoved w k q m .memory .store) i 0 ≡ getD (w .memory .store) i 0
       go true wr =
           ap (λ (x : Memory). getD (x .store) i 0) (write-memory wr)
-          ∙ outside-written (w .hca .logs) (w .memory) q (frontOf k q (w .room)) m step-fits (step-runs .valid) (step-runs .more) i (n wr)
+          ∙ outside-written (w .hca .logs) (w .memory) q (frontOf k q (w .room)) m step-fits wr (step-runs .valid) (step-runs .more) i
+          (n wr)
       go false rd = ap (λ (x : Memory). getD (x .store) i 0) (read-memory rd)
 
   pub behind-stays : (i : ℕ) → Behind (w .hca .logs) i → getD (worldMoved w k q m .memory .store) i 0 ≡ getD (w .memory .store) i 0
@@ -170,7 +172,7 @@ module _ (w : World) (k : ℕ) (q : Request) (m : ℕ) (s : Stepping w k q m) wh
       go : (b : Bool) → writesOf q ≡ b → getD (worldMoved w k q m .memory .store) i 0 ≡ getD (w .memory .store) i 0
       go true wr =
           ap (λ (x : Memory). getD (x .store) i 0) (write-memory wr)
-          ∙ behind-written (w .hca .logs) (w .memory) q (frontOf k q (w .room)) m step-fits (step-runs .valid) (step-runs .more) i h
+          ∙ behind-written (w .hca .logs) (w .memory) q (frontOf k q (w .room)) m step-fits wr (step-runs .valid) (step-runs .more) i h
       go false rd = ap (λ (x : Memory). getD (x .store) i 0) (read-memory rd)
 
   -- a byte of the room outside the slot's part
@@ -190,7 +192,7 @@ module _ (w : World) (k : ℕ) (q : Request) (m : ℕ) (s : Stepping w k q m) wh
       go : (b : Bool) → writesOf q ≡ b → length (worldMoved w k q m .memory .store) ≡ length (w .memory .store)
       go true wr =
           ap (λ (x : Memory). length (x .store)) (write-memory wr)
-          ∙ length-written (w .hca .logs) (w .memory) q (frontOf k q (w .room)) m step-fits (step-runs .valid) (step-runs .more)
+          ∙ length-written (w .hca .logs) (w .memory) q (frontOf k q (w .room)) m step-fits wr (step-runs .valid) (step-runs .more)
       go false rd = ap (λ (x : Memory). length (x .store)) (read-memory rd)
 
   pub moved-room : length (worldMoved w k q m .room) ≡ length (w .room)

@@ -2,7 +2,7 @@
 -- for the system's book, and the plain book is the same book (Shown). What is left here is that the journal of Demand3 is the journal of
 -- `serial`, entry by entry.
 use mathlib.Core.Path.{_≡_, refl, sym, _∙_, ap, ap₂, subst}
-use mathlib.Core.Bool.{Bool, true, false}
+use mathlib.Core.Bool.{Bool, true, false, false≢true}
 use mathlib.Core.List.{List, [], _∷_, _++_}
 use Prim.Native.Nat.{ℕ, _≤_}
 use native.Mathlib.Decide.{ℕ-discrete}
@@ -15,7 +15,10 @@ use Rattle.words.specs.Tests.{is-true}
 use Rattle.words.specs.Choice.{pick, by-pick}
 use Rattle.context.specs.Layout.{isRecord, recordSize}
 use Rattle.context.specs.declared.Record.{Record}
-use Rattle.request_table.specs.Records.{writesOf}
+use Rattle.requests.specs.declared.EngineRequest.the-variants as engine
+use Rattle.requests.specs.declared.Request.{Request}
+use Rattle.requests.specs.declared.Request.the-variants as request
+use Rattle.request_table.specs.Records.{writesOf, recordOf}
 use Rattle.burst_table.specs.Sizes.{slotCount, roomSize}
 use Rattle.records.specs.Memory.{Memory, memory, recordIn}
 use Rattle.slots.specs.declared.Slot.{Slot}
@@ -26,12 +29,14 @@ use Rattle.serial.specs.Told.{slotFed, givenTold, KeepsTold, next-told, begin-t
 use Rattle.serial.specs.Told.{Unwritten as UnwrittenT, NotWriting as NotWritingT, finishedIn as finishedT}
 use Rattle.rules.specs.World.{World, statusAt}
 use Rattle.rules.specs.Collections.{answerAt}
+use Rattle.rules.specs.Names.{argumentsOf}
 use Rattle.rules.specs.Book.{Book, Fed, onRecord, closeHca, nop, bookNumber, bookReply, bookAfter}
 use Rattle.rules.specs.Calls.{Answer, Note, nothing, refused, accepted, finished, emptied, answerTo, worldAfter, noteOf}
 use Rattle.rules.specs.Lending.{LentCall, lend, worldLent, answerLent, beginsLent, stopsLent, proper}
 use Rattle.rules.specs.Demand3.{Entry, turnedAway, answered, inSlot, collectedFrom, noted, Run, runFrom, Done, done, inSlotDone}
 use Rattle.rules.specs.Demand3.{finishedIn, Writing, NotWriting, Unwritten, given, bookOf, Demand3, Statement, Zeroed}
-use Rattle.rules.specs.Proofs.System.{Place, gate, at, Req, one, closeHca as closing}
+use Rattle.rules.specs.Demand3.{WritesRecord}
+use Rattle.rules.specs.Proofs.System.{Place, gate, at, Req, one, missing, closeHca as closing}
 use Rattle.rules.specs.Proofs.System.{nop as resting, number, gateBytes, Writes, system}
 use Rattle.rules.specs.Proofs.Shown.{shows, plain, asks}
 use Rattle.rules.specs.Proofs.View.{lookAt, slotView, slotAt, viewOf, Fine, look-valid}
@@ -42,12 +47,12 @@ use Rattle.rules.specs.Proofs.Lists.{Roomy, LentAs, leaves, onlyNop, goe
 
 -- ---- the two journals
 
-abbrev item : Entry → Told system plain
+abbrev pub item : Entry → Told system plain
 item (turnedAway f n) = away f (number n)
 item (answered f a) = replied f a
 item (inSlot f k) = within f k
 
-abbrev items : List Entry → List (Told system plain)
+abbrev pub items : List Entry → List (Told system plain)
 items [] = []
 items (e ∷ J) = item e ∷ items J
 
@@ -107,10 +112,10 @@ run-keeps s w J (c ∷ cs) r i =
 
 -- ---- what is said of a run, in the terms of `serial`
 
-abbrev fin : Done → FedAsk system plain
+abbrev pub fin : Done → FedAsk system plain
 fin d = record { what = d .what; gave = d .gave }
 
-abbrev fins : List Done → List (FedAsk system plain)
+abbrev pub fins : List Done → List (FedAsk system plain)
 fins [] = []
 fins (d ∷ l) = fin d ∷ fins l
 
@@ -118,7 +123,7 @@ fins-append : (A B : List Done) → fins (A ++ B) ≡ fins A ++ fins B
 fins-append [] B = refl
 fins-append (d ∷ A) B = ap (λ (l : List (FedAsk system plain)). fin d ∷ l) (fins-append A B)
 
-fins-same : (w : World) (J : List Entry) → fins (finishedIn w J) ≡ finishedT system plain (slotAt w) (items J)
+pub fins-same : (w : World) (J : List Entry) → fins (finishedIn w J) ≡ finishedT system plain (slotAt w) (items J)
 unfolding answerAt
 fins-same w [] = refl
 fins-same w (turnedAway f n ∷ J) = fins-same w J
@@ -137,9 +142,18 @@ abbrev WritingAt : Fed → Place → Type 0
 WritingAt f gate = Unit {0}
 WritingAt f (at X) = Writing f X
 
+writes-record : (q : Request) (X : Record) → writesOf q ≡ true → recordOf q ≡ X → WritesRecord (argumentsOf q) X
+writes-record (request.Command c) X w e = (w, e)
+writes-record (request.Engine (engine.ReadState n)) X w e = absurd (false≢true w)
+writes-record (request.Engine (engine.ReadNext n)) X w e = absurd (false≢true w)
+writes-record (request.Engine (engine.ReadAll n)) X w e = absurd (false≢true w)
+writes-record (request.Engine (engine.Write p s n psn)) X w e = e
+writes-record (request.Engine (engine.ReadJoined n c d)) X w e = absurd (false≢true w)
+
 writing : (r : Req) (X : Place) → Writes r X → WritingAt (asks r) X
 writing r gate x = tt
-writing (one q mail) (at X) x = (is-true (writesOf q) (x .0), sym (x .1))
+writing (one q mail) (at X) x = writes-record q X (is-true (writesOf q) (x .0)) (sym (x .1))
+writing (missing n t) (at X) x = absurd x
 writing closing (at X) x = x
 writing resting (at X) x = x
 
@@ -155,7 +169,7 @@ quiet-same w X (inSlot f k ∷ J) u = (go (statusAt k (w .row)) (u .0), quiet-sa
     go (Running m q) x = x
     go (Finished m q) x = x
 
-given-same : (b : Book) (l : List Done) → givenTold system plain b (fins l) ≡ given b l
+pub given-same : (b : Book) (l : List Done) → givenTold system plain b (fins l) ≡ given b l
 given-same b [] = refl
 given-same b (d ∷ l) = given-same (bookAfter (d .what) b) l
 
@@ -228,15 +242,24 @@ zeroed before first i X v =
     ap (λ (b : Bool). pick b (recordIn (worldLent before first .hca .logs) (proper (worldLent before first) .memory) X) []) v
     ∙ start-zero before first i X v
 
+-- the book begins as the memory does
+pub book-shows : (w : World) → w .hca .«open» ≡ true → (X : Place) → shows (bookOf w) X ≡ lookAt w X
+book-shows w o gate = ap (λ (b : Bool). gateBytes b (w .hca .logs)) (sym o)
+book-shows w o (at X) = refl
+
+-- every list of calls keeps the invariant
+pub list-keeps : (before : World) (first : LentCall) → beginsLent before first ≡ true → (calls : List LentCall)
+    → let start : World = worldLent before first in
+    KeepsTold system plain (lookAt (proper start)) (viewOf (proper (runFrom start [] calls .world)))
+    (items (runFrom start [] calls .journal))
+list-keeps before first i calls =
+    let start : World = worldLent before first in
+    run-keeps (lookAt (proper start)) start [] calls (start-roomy before first i)
+    (begin-told system plain (viewOf (proper start)) (λ j. ap (slotView j (proper start .room)) (start-free before first i j)))
+
 -- DEMAND 3
 pub demand3 : Statement
 demand3 before first i calls =
     let start : World = worldLent before first in
     literal (bookOf (proper start)) (lookAt (proper start)) (proper (runFrom start [] calls .world)) (runFrom start [] calls .journal)
-    (begins (proper start) (start-open before first i))
-    (run-keeps (lookAt (proper start)) start [] calls (start-roomy before first i)
-    (begin-told system plain (viewOf (proper start)) (λ j. ap (slotView j (proper start .room)) (start-free before first i j))))
-  where
-    begins : (w : World) → w .hca .«open» ≡ true → (X : Place) → shows (bookOf w) X ≡ lookAt w X
-    begins w o gate = ap (λ (b : Bool). gateBytes b (w .hca .logs)) (sym o)
-    begins w o (at X) = refl
+    (book-shows (proper start) (start-open before first i)) (list-keeps before first i calls)

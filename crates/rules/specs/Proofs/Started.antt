@@ -19,7 +19,7 @@ use Rattle.rules.specs.Commands.{decideCommand, submitCommand}
 use Rattle.rules.specs.Calls.{Call, command, engineRequest, step, collection, resetting, worldAfter}
 use Rattle.rules.specs.Calls.{Asked, commandAsked, isDone, isInit, initialises, begins}
 use Rattle.rules.specs.Laws.Lent.{Sized, lent-sized, closed-free}
-use Rattle.rules.specs.Laws.Decided.{Decided, plain, denied, takes, closes, rests, opens, command-decided}
+use Rattle.rules.specs.Laws.Decided.{Decided, plain, denied, takes, closes, rests, opens, command-decided, misnamed}
 
 pub record Started (w : World) : Type 0 where
   pub opened : w .hca .«open» ≡ true
@@ -38,6 +38,7 @@ applied-started : (w : World) (mail : List ℕ) (a : Asked) (d : Decision) → D
 unfolding worldOpened
 applied-started w mail a d (plain {a = x} c e) i = no-done (isInit x) i
 applied-started w mail a d (denied g e) i = absurd (false≢true i)
+applied-started w mail a d (misnamed g) i = absurd (false≢true i)
 applied-started w mail a d (takes g e f) i = absurd (false≢true i)
 applied-started w mail a d (closes o n) i = absurd (false≢true i)
 applied-started w mail a d rests i = absurd (false≢true i)

@@ -44,6 +44,7 @@ writer-answer (request.Engine (engine.ReadState n)) p c e = absurd (false≢true
 writer-answer (request.Engine (engine.ReadNext n)) p c e = absurd (false≢true e)
 writer-answer (request.Engine (engine.ReadAll n)) p c e = absurd (false≢true e)
 writer-answer (request.Engine (engine.Write x s n psn)) p c e = refl
+writer-answer (request.Engine (engine.ReadJoined n d x)) p c e = absurd (false≢true e)
 
 module _ (w : World) (k : ℕ) (q : Request) (m : ℕ) (s : Stepping w k q m) (wr : writesOf q ≡ true) where
   u : World

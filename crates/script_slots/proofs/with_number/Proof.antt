@@ -7,6 +7,9 @@ use Rattle.script_slots.proofs.with_number.Tie as tie
 enum-known-found : tie.Need-enum-known-found
 enum-known-found c = search needs
 
+code-of-requires : tie.Need-code-of-requires
+code-of-requires c κs = search needs
+
 any-index-requires : tie.Need-any-index-requires
 any-index-requires c κs = search needs
 
@@ -21,8 +24,8 @@ enum-told c = search needs
 
 returns : tie.Need-returns
 returns c =
-    rw (c .before .before .before .before .found .given .1) (number-served _ _ _ _ _ _ _ (c .before .before .any-index .ensures)
-    (c .before .read-engine .ensures .0) (c .on-queue-pair .ensures))
+    rw (c .before .before .before .before .before .found .given .1) (number-served _ _ _ _ _ _ _ _ (c .before .before .before .code-of .ensures)
+    (c .before .before .any-index .ensures) (c .before .read-engine .ensures .0) (c .on-queue-pair .ensures))
 
 returns-2 : tie.Need-returns-2
 returns-2 c = search needs
@@ -32,6 +35,7 @@ with-number-spec =
     tie.close
     (tie.spec
     enum-known-found
+    code-of-requires
     any-index-requires
     read-engine-requires
     on-queue-pair-requires

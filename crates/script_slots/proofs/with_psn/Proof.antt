@@ -1,5 +1,4 @@
 -- `script_slots::with_psn` meets its contract.
-
 use borrow.Author.Needs.{needs}
 use Rattle.script_slots.proofs.with_psn.Statement.{statement}
 use Rattle.script_slots.proofs.with_psn.Tie as tie
@@ -16,6 +15,9 @@ enum-known-engine-3 c = search needs
 enum-known-engine-4 : tie.Need-enum-known-engine-4
 enum-known-engine-4 c = search needs
 
+enum-known-engine-5 : tie.Need-enum-known-engine-5
+enum-known-engine-5 c = search needs
+
 returns : tie.Need-returns
 returns c = cc
 
@@ -26,8 +28,10 @@ returns-3 : tie.Need-returns-3
 returns-3 c = cc
 
 returns-4 : tie.Need-returns-4
-returns-4 c =
-    rw (c .before .engine4 .given .1)
+returns-4 c = rw (c .before .engine4 .given .1)
+
+returns-5 : tie.Need-returns-5
+returns-5 c = rw (c .before .engine5 .given .1)
 
 pub with-psn-spec : {M : Type 1} → statement M
 with-psn-spec =
@@ -37,7 +41,9 @@ with-psn-spec =
     enum-known-engine-2
     enum-known-engine-3
     enum-known-engine-4
+    enum-known-engine-5
     returns
     returns-2
     returns-3
-    returns-4)
+    returns-4
+    returns-5)

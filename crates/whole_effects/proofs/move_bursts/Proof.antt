@@ -1,5 +1,5 @@
 -- `whole_effects::move_bursts` is safe and ends. The store and the room keep their lengths, and the laws of the burst table
--- place each burst in the record and the mailbox in the slot's part of the room.
+-- place each burst in the store and the mailbox in the slot's part of the room.
 use mathlib.Core.Path.{_≡_}
 use Prim.Native.Nat.{ℕ, _+_, _-_, _≤_, _<_}
 use borrow.Author.Needs.{needs}
@@ -12,13 +12,13 @@ use Rattle.burst_table.specs.Laws.{offset-room, need-small}
 use Rattle.whole_effects.proofs.move_bursts.Statement.{statement}
 use Rattle.whole_effects.proofs.move_bursts.Tie as tie
 
--- burst m lies in the bytes that the largest record has
+-- burst m lies in as many bytes as a slot's part of the room has
 placed : (q : Request) (m total first : ℕ) → m < total → total ≡ totalOf q → first ≡ offsetOf q m → first + burstSize ≤ slotRoom
 placed q m total first h e p = omega (arith, offset-room q m (omega arith))
 
 abbrev Inv-loop : tie.InvT-loop
 Inv-loop store₀ request room total m₀ store m =
-    (length store ≡ length store₀) × (512 ≤ length store₀) × (length room ≡ roomSize) × (total ≡ totalOf request)
+    (length store ≡ length store₀) × (640 ≤ length store₀) × (length room ≡ roomSize) × (total ≡ totalOf request)
 
 abbrev μ-loop : tie.MeasureT-loop
 μ-loop store₀ request room total m₀ store m = total - m

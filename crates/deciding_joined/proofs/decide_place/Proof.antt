@@ -1,8 +1,8 @@
--- `deciding::decide_place` meets its contract.
+-- `deciding_joined::decide_place` meets its contract.
 use Rattle.rules.specs.Admission.{decidePlace}
 use borrow.Author.Needs.{needs}
-use Rattle.deciding.proofs.decide_place.Statement.{statement}
-use Rattle.deciding.proofs.decide_place.Tie as tie
+use Rattle.deciding_joined.proofs.decide_place.Statement.{statement}
+use Rattle.deciding_joined.proofs.decide_place.Tie as tie
 
 enum-known-found : tie.Need-enum-known-found
 enum-known-found c = search needs

@@ -1,0 +1,2 @@
+-- What a script's `lend` lends.
+pub mod Lending
