@@ -1,16 +1,10 @@
 -- What applying a decision asks of the memory lent, and that every decision of the rules promises it.
-use mathlib.Core.Path.{_≡_}
-use mathlib.Core.Bool.{true}
 use mathlib.Core.List.{List, []}
-use Prim.Native.Nat.{ℕ, _≤_, _<_}
+use Prim.Native.Nat.{ℕ, _<_}
 use native.Mathlib.Omega.{arith}
 use lib.ListN.{length}
-use Rattle.context.specs.Layout.{rangesHold, inUse}
 use Rattle.context.specs.Counts.{init-ranges, init-fits}
-use Rattle.context.specs.declared.Logs.{Logs}
 use Rattle.requests.specs.declared.Request.{Request}
-use Rattle.mailboxes.specs.Mailboxes.{needOf}
-use Rattle.burst_table.specs.Sizes.{slotCount, roomSize}
 use Rattle.rows.specs.Laws.{lowest-free-is}
 use Rattle.rules.specs.declared.Decision.{Decision}
 use Rattle.rules.specs.declared.Decision.the-variants as decide
@@ -21,17 +15,7 @@ use Rattle.rules.specs.Calls.{Asked}
 use Rattle.rules.specs.Laws.Lent.{Sized, lent-sized}
 use Rattle.rules.specs.Laws.Decided.{Judging, Decided, plain, denied, misnamed, takes, closes, rests, opens}
 use Rattle.rules.specs.Laws.Decided.{command-decided, engine-decided}
-
--- the counts are within their ranges, and the records lie in a store of s bytes
-pub record Opening (g : Logs) (s : ℕ) : Type 0 where
-  pub ranges : rangesHold g ≡ true
-  pub fits : inUse g ≤ s
-
--- slot k is one of the row, a room of r bytes has its part, and a mailbox of m bytes has those that the request needs
-pub record Taking (q : Request) (k r m : ℕ) : Type 0 where
-  pub below : k < slotCount
-  pub roomed : roomSize ≤ r
-  pub enough : needOf q ≤ m
+use Rattle.apply_parts.specs.Parts.{Opening, Taking}
 
 -- what each decision promises of the lengths of store, room and mailbox
 abbrev pub Applies : ℕ → ℕ → ℕ → Decision → Type 0

@@ -1,23 +1,20 @@
--- What the code hands back, what it asks of the room and the mailbox, and that what it leaves is what the rules say.
-use mathlib.Core.Path.{_≡_, sym, _∙_, ap, subst}
+-- What the code hands back, and that what it leaves is what the rules say.
+use mathlib.Core.Path.{_≡_, _∙_, ap, subst}
 use mathlib.Core.Bool.{true}
 use mathlib.Core.List.{List}
-use Prim.Native.Nat.{ℕ, _+_, _≤_, _<_}
-use native.Mathlib.Omega.{arith}
-use lib.ListN.{length, getD, take}
-use lib.Seq.{length-take-le}
-use Rattle.words.specs.Parts.{part, splice}
+use Prim.Native.Nat.{ℕ, _<_}
+use lib.ListN.{length, getD}
+use Rattle.words.specs.Parts.{part}
 use Rattle.context.specs.declared.Logs.{Logs}
 use Rattle.requests.specs.declared.Request.{Request}
 use Rattle.mailboxes.specs.Mailboxes.{needOf}
-use Rattle.burst_table.specs.Sizes.{slotCount, slotStart}
-use Rattle.burst_table.specs.Laws.{need-small}
+use Rattle.burst_table.specs.Sizes.{slotCount}
 use Rattle.bursts.specs.Room.{roomFilled}
 use Rattle.slots.specs.Slots.{slot, accepted}
 use Rattle.slots.specs.declared.Slot.{Slot}
 use Rattle.slots.specs.declared.Status.the-variants.{Free}
 use Rattle.possible.specs.declared.Hca.{Hca}
-use Rattle.records.specs.Memory.{Memory, memory, zeroed}
+use Rattle.records.specs.Memory.{Memory}
 use Rattle.rules.specs.declared.Decision.{Decision}
 use Rattle.rules.specs.declared.Decision.the-variants as decide
 use Rattle.rules.specs.declared.Refusal.{Refusal}
@@ -27,25 +24,12 @@ use Rattle.rules.specs.World.{world, hcaOf, shut, withMemory}
 use Rattle.rules.specs.Admission.{submitted, worldOpened, worldClosed, worldTaken, applied}
 use Rattle.handed_back.specs.Handed.{submitHanded, sameRow, same-row}
 use Rattle.handed_back.specs.declared.Submitted.{Submitted}
-use Rattle.applying.specs.Applies.{Opening, Taking, Applies}
+use Rattle.apply_parts.specs.Parts.{Opening, Taking, Opened}
+use Rattle.applying.specs.Applies.{Applies}
 
 -- what is handed back, from its parts
 abbrev pub handed : SubmitAnswer → Hca → ℕ → Slot → Submitted
 handed a h k s = record { answer = a; hca = h; at = k; slot = s }
-
--- ---- the mailbox bytes of a request that takes a slot
-
-module _ (q : Request) (k r : ℕ) (mail : List ℕ) (t : Taking q k r (length mail)) (n : ℕ) (need-is : n ≡ needOf q) where
-  pub front-length : n ≡ length (take n mail)
-  front-length = sym (length-take-le n mail (omega (arith, t .enough)))
-
-  pub front-inside : (base : ℕ) → base ≡ slotStart k → base + length (take n mail) ≤ r
-  front-inside base e = omega (arith, front-length, need-small q, t .below, t .roomed)
-
-pub fill-leaves : (q : Request) (k n base : ℕ) (mail room out : List ℕ) → n ≡ needOf q → base ≡ slotStart k
-    → out ≡ splice base (take n mail) room → out ≡ roomFilled k (part 0 (needOf q) mail) room
-unfolding roomFilled part
-fill-leaves q k n base mail room out e f z = z ∙ rw (e, f)
 
 -- ---- what each decision promises, once a match has found it
 
@@ -59,11 +43,6 @@ pub take-below : (s r m : ℕ) (d : Decision) (q : Request) (k : ℕ) → d ≡ 
 take-below s r m d q k is a = take-promised s r m d q k is a .below
 
 -- ---- what each decision leaves
-
--- what INIT_HCA leaves in the memory, and the state that it hands back
-pub record Opened (g : Logs) (store out : List ℕ) (r : Hca) : Type 0 where
-  pub zero : memory out ≡ zeroed g (memory store)
-  pub state : r ≡ hcaOf true g (length store)
 
 module _ (h : Hca) (row : List Slot) (store room mail : List ℕ) (d : Decision) (x : Submitted) where
   -- with this store and this room, what is handed back is the decision applied

@@ -1,2 +1,2 @@
--- What the stages of a command's decision ask for, and what its first tests come to.
+-- What the first tests of a command's decision come to.
 pub mod Ready

@@ -1,55 +1,20 @@
--- What the stages of a command's decision ask for, and what its first tests come to.
-use mathlib.Core.Path.{_≡_, refl, sym, _∙_, ap, subst}
-use mathlib.Core.Bool.{Bool, true, false, not}
+-- What the first tests of a command's decision come to.
+use mathlib.Core.Path.{_≡_, refl, _∙_, ap}
+use mathlib.Core.Bool.{Bool, true, false}
 use mathlib.Core.List.{List}
 use Prim.Native.Nat.{ℕ, _≤_, _<_}
-use borrow.Author.Tests.{lt-ltb, le-ltb, not-false}
+use borrow.Author.Tests.{lt-ltb, le-ltb}
 use lib.Dec.{ltb}
 use lib.ListN.{length}
 use Rattle.words.specs.Choice.{either, pick-yes, pick-no}
 use Rattle.words.specs.Tests.{neither}
 use Rattle.hcr.specs.Register.{readOf}
 use Rattle.hcr.specs.declared.ReadAnswer.{ReadAnswer}
-use Rattle.context.specs.Layout.{isRecord}
-use Rattle.context.specs.declared.Logs.{Logs}
-use Rattle.requests.specs.declared.Command.{Command}
-use Rattle.requests.specs.declared.Request.the-variants as request
-use Rattle.commands.specs.Commands.{readCommand}
-use Rattle.commands.specs.declared.CommandFound.{CommandFound}
-use Rattle.commands.specs.declared.CommandFound.the-variants as found
-use Rattle.commands.specs.declared.Op.{Op}
-use Rattle.request_table.specs.Records.{commandRecord}
-use Rattle.records.specs.Calls.{Stored}
-use Rattle.possible.specs.declared.Hca.{Hca}
 use Rattle.rules.specs.declared.Decision.{Decision}
 use Rattle.rules.specs.declared.Decision.the-variants as decide
 use Rattle.rules.specs.declared.Refusal.the-variants as cause
 use Rattle.rules.specs.World.{World, badLent, badState}
-use Rattle.rules.specs.Commands.{badSystem, decideRegister, decideCommand}
-use Rattle.rules.specs.Laws.Found.{Reads, onRecord, command-reads}
-use Rattle.deciding.specs.Ready.{OpenFits, open-stored}
-
--- the memory has the record of the command that is found
-pub record CommandStored (g : Logs) (store : List ℕ) (f : CommandFound) : Type 0 where
-  pub stored : (c : Command) → f ≡ found.OnRecord c → Stored g store (request.Command c)
-
--- a command on a record is served while open only, and its record is one of the store
-record OnRecord (g : Logs) (o : Op) (c : Command) : Type 0 where
-  pub opened : (b : Bool) → badSystem b o ≡ not b
-  pub valid : isRecord g (commandRecord c) ≡ true
-
-on-record : (g : Logs) (o : Op) (c : Command) → Reads g o (found.OnRecord c) → OnRecord g o c
-on-record g o c (onRecord n v) = record { opened = n; valid = v }
-
-pub command-stored : (h : Hca) (store : List ℕ) (o : Op) (p n : ℕ) (f : CommandFound) (b : Bool) → OpenFits h store
-    → b ≡ badSystem (h .«open») o → b ≡ false → f ≡ readCommand (h .logs) o p n → CommandStored (h .logs) store f
-command-stored h store o p n f b r s t e =
-    record {
-      stored = λ c i.
-          let y : Reads (h .logs) o (found.OnRecord c) = subst (Reads (h .logs) o) (sym e ∙ i) (command-reads (h .logs) o p n) in
-          let x : OnRecord (h .logs) o c = on-record (h .logs) o c y in
-          open-stored h store (request.Command c) r (not-false (h .«open») (sym (x .opened (h .«open»)) ∙ sym s ∙ t)) (x .valid);
-    }
+use Rattle.rules.specs.Commands.{decideRegister, decideCommand}
 
 -- ---- the first rows of the table: the lengths, with that of the HCR, then the state
 

@@ -2,7 +2,7 @@
 use mathlib.Core.Path.{sym}
 use borrow.Author.Needs.{needs}
 use Rattle.words.specs.Maps.{map-same}
-use Rattle.burst_writes.specs.Maps.{zero-map}
+use Rattle.owner_bursts.specs.Maps.{zero-map}
 use Rattle.burst_writes.proofs.command_burst.Statement.{statement}
 use Rattle.burst_writes.proofs.command_burst.Tie as tie
 

@@ -1,0 +1,2 @@
+-- What the stages of a command's decision ask for.
+pub mod Ready

@@ -1,0 +1,2 @@
+-- One burst of an edge.
+pub mod Edges

@@ -1,0 +1,3 @@
+-- One burst made zero, and the writes of one burst of a record that has an owner.
+pub mod Maps
+pub mod Owners

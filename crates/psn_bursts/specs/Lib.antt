@@ -1,0 +1,2 @@
+-- One burst of an engine write.
+pub mod Engines
