@@ -9,8 +9,8 @@ use Rattle.words.specs.Choice.{pick-yes, pick-no}
 use Rattle.script_words.specs.Words.{sameWord}
 use Rattle.script_lines.specs.Lines.{nth}
 use Rattle.script_lines.specs.declared.LineNumbers.{LineNumbers}
-use Rattle.script_slots.specs.Requests.{commandIn}
-use Rattle.script_slots.specs.declared.RequestFound.{RequestFound}
+use Rattle.slot_requests.specs.Requests.{commandIn}
+use Rattle.slot_requests.specs.declared.RequestFound.{RequestFound}
 use Rattle.script_device.specs.Slots.{occupiedAs, commandSlot}
 use Rattle.script_device.specs.declared.SlotFound.{SlotFound}
 

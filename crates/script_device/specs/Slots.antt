@@ -7,9 +7,9 @@ use Rattle.words.specs.Choice.{pick}
 use Rattle.script_words.specs.Words.{spaces, wordAt, sameWord}
 use Rattle.script_lines.specs.Lines.{nth, numbersOf}
 use Rattle.script_lines.specs.declared.LineNumbers.{LineNumbers}
-use Rattle.script_slots.specs.Requests.{commandIn, engineIn}
-use Rattle.script_slots.specs.declared.RequestFound.{RequestFound}
-use Rattle.script_slots.specs.declared.RequestFound.the-variants as request
+use Rattle.slot_requests.specs.Requests.{commandIn, engineIn}
+use Rattle.slot_requests.specs.declared.RequestFound.{RequestFound}
+use Rattle.slot_requests.specs.declared.RequestFound.the-variants as request
 use Rattle.slots.specs.Slots.{slot}
 use Rattle.slots.specs.declared.Status.the-variants.{Free, Running, Finished}
 use Rattle.requests.specs.declared.Request.{Request}

@@ -2,9 +2,9 @@
 use requests::Request;
 use script_lines::LineNumbers;
 use script_numbers::NumberFound;
-use script_slots::RequestFound;
 use script_words::same;
 use script_words::word;
+use slot_requests::RequestFound;
 use slots::Slot;
 use slots::Status;
 ghost use mathlib.Core.Path.{_≡_};
@@ -69,7 +69,7 @@ fn command_slot(how: &[u8], read: LineNumbers) -> SlotFound
     if 255 < moved {
         return SlotFound::Wrong;
     }
-    let found = script_slots::read_command(op as u16, modifier as u8, read.at[2]);
+    let found = slot_requests::read_command(op as u16, modifier as u8, read.at[2]);
     occupied(how, moved as u8, found)
 }
 
@@ -85,7 +85,7 @@ fn engine_slot(how: &[u8], read: LineNumbers) -> SlotFound
     if 255 < moved {
         return SlotFound::Wrong;
     }
-    let found = script_slots::read_engine(read.at[0], read.at[1], read.at[2], read.at[3]);
+    let found = slot_requests::read_engine(read.at[0], read.at[1], read.at[2], read.at[3]);
     occupied(how, moved as u8, found)
 }
 

@@ -1,6 +1,6 @@
-// A slot's request from the numbers that a script gives it. A slot handed in may be impossible, so
-// the index, the PSN and the names of a joined read are not judged; but what no submission could ever
-// put into a slot, the slot's type cannot hold.
+// A slot's request from the numbers that it is handed in with, by a script or in the C interface's
+// bytes. A slot handed in may be impossible, so the index, the PSN and the names of a joined read are
+// not judged; but what no submission could ever put into a slot, the slot's type cannot hold.
 use commands::CommandFound;
 use commands::OpFound;
 use context::CqNumber;
@@ -12,7 +12,7 @@ use engines::NumberFound;
 use requests::EngineRequest;
 use requests::Request;
 ghost use mathlib.Core.Path.{_≡_};
-ghost use Rattle.script_slots.specs.Requests.{anyIndex, onRecord, withOp, commandIn, withPsn, codeOf, onOne, joinedOn, onQueuePair, withNumber, engineIn};
+ghost use Rattle.slot_requests.specs.Requests.{anyIndex, onRecord, withOp, commandIn, withPsn, codeOf, onOne, joinedOn, onQueuePair, withNumber, engineIn};
 
 pub enum RequestFound {
     Request(Request),

@@ -1,13 +1,13 @@
--- `script_slots::on_one` meets its contract.
+-- `slot_requests::on_one` meets its contract.
 use mathlib.Core.Path.{ap}
 use borrow.Author.Tests.{le-ltb}
 use Rattle.requests.specs.declared.EngineRequest.{EngineRequest}
 use Rattle.requests.specs.declared.Request.the-variants as request
-use Rattle.script_slots.specs.declared.RequestFound.the-variants.{Request}
+use Rattle.slot_requests.specs.declared.RequestFound.the-variants.{Request}
 use Rattle.words.specs.Choice.{cases, pick-no}
 use borrow.Author.Needs.{needs}
-use Rattle.script_slots.proofs.on_one.Statement.{statement}
-use Rattle.script_slots.proofs.on_one.Tie as tie
+use Rattle.slot_requests.proofs.on_one.Statement.{statement}
+use Rattle.slot_requests.proofs.on_one.Tie as tie
 
 returns : tie.Need-returns
 returns c = search cases

@@ -1,7 +1,7 @@
--- `script_slots::with_psn` meets its contract.
+-- `slot_requests::with_psn` meets its contract.
 use borrow.Author.Needs.{needs}
-use Rattle.script_slots.proofs.with_psn.Statement.{statement}
-use Rattle.script_slots.proofs.with_psn.Tie as tie
+use Rattle.slot_requests.proofs.with_psn.Statement.{statement}
+use Rattle.slot_requests.proofs.with_psn.Tie as tie
 
 enum-known-engine : tie.Need-enum-known-engine
 enum-known-engine c = search needs

@@ -24,8 +24,8 @@ use Rattle.engines.specs.declared.EngineFound.the-variants as engineFound
 use Rattle.requests.specs.declared.EngineRequest.{EngineRequest}
 use Rattle.requests.specs.declared.EngineRequest.the-variants as engine
 use Rattle.requests.specs.declared.Request.the-variants as request
-use Rattle.script_slots.specs.declared.RequestFound.{RequestFound}
-use Rattle.script_slots.specs.declared.RequestFound.the-variants.{Request, Wrong}
+use Rattle.slot_requests.specs.declared.RequestFound.{RequestFound}
+use Rattle.slot_requests.specs.declared.RequestFound.the-variants.{Request, Wrong}
 
 abbrev pub anyIndex : Logs
 anyIndex = record { qps = 32; cqs = 32; eqs = 32; mpts = 32 }

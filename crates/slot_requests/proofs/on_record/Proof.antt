@@ -1,7 +1,7 @@
--- `script_slots::on_record` meets its contract.
+-- `slot_requests::on_record` meets its contract.
 use borrow.Author.Needs.{needs}
-use Rattle.script_slots.proofs.on_record.Statement.{statement}
-use Rattle.script_slots.proofs.on_record.Tie as tie
+use Rattle.slot_requests.proofs.on_record.Statement.{statement}
+use Rattle.slot_requests.proofs.on_record.Tie as tie
 
 enum-told : tie.Need-enum-told
 enum-told c = search needs

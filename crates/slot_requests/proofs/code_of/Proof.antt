@@ -1,8 +1,8 @@
--- `script_slots::code_of` meets its contract.
+-- `slot_requests::code_of` meets its contract.
 use Rattle.words.specs.Choice.{cases}
 use borrow.Author.Needs.{needs}
-use Rattle.script_slots.proofs.code_of.Statement.{statement}
-use Rattle.script_slots.proofs.code_of.Tie as tie
+use Rattle.slot_requests.proofs.code_of.Statement.{statement}
+use Rattle.slot_requests.proofs.code_of.Tie as tie
 
 returns : tie.Need-returns
 returns c = search cases

@@ -1,8 +1,8 @@
--- `script_slots::with_op` meets its contract.
-use Rattle.script_slots.specs.Requests.{op-served}
+-- `slot_requests::with_op` meets its contract.
+use Rattle.slot_requests.specs.Requests.{op-served}
 use borrow.Author.Needs.{needs}
-use Rattle.script_slots.proofs.with_op.Statement.{statement}
-use Rattle.script_slots.proofs.with_op.Tie as tie
+use Rattle.slot_requests.proofs.with_op.Statement.{statement}
+use Rattle.slot_requests.proofs.with_op.Tie as tie
 
 enum-known-found : tie.Need-enum-known-found
 enum-known-found c = search needs

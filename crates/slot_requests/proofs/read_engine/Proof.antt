@@ -1,7 +1,7 @@
--- `script_slots::read_engine` meets its contract.
+-- `slot_requests::read_engine` meets its contract.
 use borrow.Author.Needs.{needs}
-use Rattle.script_slots.proofs.read_engine.Statement.{statement}
-use Rattle.script_slots.proofs.read_engine.Tie as tie
+use Rattle.slot_requests.proofs.read_engine.Statement.{statement}
+use Rattle.slot_requests.proofs.read_engine.Tie as tie
 
 read-number-requires : tie.Need-read-number-requires
 read-number-requires c κs = search needs

@@ -1,7 +1,7 @@
--- `script_slots::on_queue_pair` meets its contract.
+-- `slot_requests::on_queue_pair` meets its contract.
 use borrow.Author.Needs.{needs}
-use Rattle.script_slots.proofs.on_queue_pair.Statement.{statement}
-use Rattle.script_slots.proofs.on_queue_pair.Tie as tie
+use Rattle.slot_requests.proofs.on_queue_pair.Statement.{statement}
+use Rattle.slot_requests.proofs.on_queue_pair.Tie as tie
 
 enum-known-found : tie.Need-enum-known-found
 enum-known-found c = search needs

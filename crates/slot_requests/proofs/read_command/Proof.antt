@@ -1,7 +1,7 @@
--- `script_slots::read_command` meets its contract.
+-- `slot_requests::read_command` meets its contract.
 use borrow.Author.Needs.{needs}
-use Rattle.script_slots.proofs.read_command.Statement.{statement}
-use Rattle.script_slots.proofs.read_command.Tie as tie
+use Rattle.slot_requests.proofs.read_command.Statement.{statement}
+use Rattle.slot_requests.proofs.read_command.Tie as tie
 
 read-op-requires : tie.Need-read-op-requires
 read-op-requires c κs = search needs

@@ -1,8 +1,8 @@
--- `script_slots::with_number` meets its contract.
-use Rattle.script_slots.specs.Requests.{number-served}
+-- `slot_requests::with_number` meets its contract.
+use Rattle.slot_requests.specs.Requests.{number-served}
 use borrow.Author.Needs.{needs}
-use Rattle.script_slots.proofs.with_number.Statement.{statement}
-use Rattle.script_slots.proofs.with_number.Tie as tie
+use Rattle.slot_requests.proofs.with_number.Statement.{statement}
+use Rattle.slot_requests.proofs.with_number.Tie as tie
 
 enum-known-found : tie.Need-enum-known-found
 enum-known-found c = search needs

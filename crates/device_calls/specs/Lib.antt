@@ -1,0 +1,2 @@
+-- The exported calls on bytes.
+pub mod Calls
