@@ -67,7 +67,7 @@ pub free-read : (k : ℕ) (dev : List ℕ) → getD dev (32 + k * 32) 0 ≡ 0 �
 unfolding slotAt statusOf
 free-read k dev e =
     let f : getD (part (slotPlace k) 32 dev) 0 0 ≡ 0 =
-        getD-part (slotPlace k) 32 dev 0 (lit< tt) ∙ ap (λ (i : ℕ). getD dev i 0) (add-zero (slotPlace k)) ∙ e in
+    getD-part (slotPlace k) 32 dev 0 (lit< tt) ∙ ap (λ (i : ℕ). getD dev i 0) (add-zero (slotPlace k)) ∙ e in
     rw f
 
 -- A free slot is in the row already.
@@ -76,7 +76,7 @@ pub skip-slots : (dev : List ℕ) (row : List Slot) (k : ℕ) → row ≡ slotsO
 unfolding slotsOf
 skip-slots dev row k e f =
     e ∙ rw (add-one, free-read k dev f)
-        (sym (ap (set (slotsOf k dev) k) (sym (free-behind k dev k (omega arith))) ∙ set-back (slotsOf k dev) k))
+    (sym (ap (set (slotsOf k dev) k) (sym (free-behind k dev k (omega arith))) ∙ set-back (slotsOf k dev) k))
 
 pub all-slots : (dev : List ℕ) (row : List Slot) (k : ℕ) → row ≡ slotsOf k dev → k ≤ 8 → 8 ≤ k → row ≡ slotsOf 8 dev
 all-slots dev row k e h i =
