@@ -72,8 +72,9 @@ fn decide_asked(hca: Hca, row: [Slot; 8], store: &[u8], found: EngineFound) -> D
     }
 }
 
-// The request's number, and that the adapter is open.
-fn decide_number(
+// The request's number, and that the adapter is open. The caller has made the first tests: of the
+// lengths, and that the state is possible.
+pub fn decide_number(
     hca: Hca,
     row: [Slot; 8],
     store: &[u8],

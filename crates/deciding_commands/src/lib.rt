@@ -11,8 +11,9 @@ ghost use Rattle.rules.specs.World.{world};
 ghost use Rattle.rules.specs.Commands.{decideRegister, decideCommand};
 ghost use Rattle.deciding.specs.Ready.{OpenFits};
 
-// What the register holds. Submission alone refuses E.
-fn decide_register(
+// What the register holds. Submission alone refuses E. The caller has made the first tests: of the
+// lengths, and that the state is possible.
+pub fn decide_register(
     hca: Hca,
     row: [Slot; 8],
     store: &[u8],

@@ -1,1 +1,2 @@
+-- A collection from a row by value, as the code makes it.
 pub mod Collections

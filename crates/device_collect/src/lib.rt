@@ -1,8 +1,6 @@
 // Collecting a slot, with the row of slots by value.
-use burst_table::SLOT_ROOM;
 use handed_back::Collected;
 use possible::Hca;
-use requests::Request;
 use rules::CollectAnswer;
 use rules::Refusal;
 use slots::Slot;
@@ -10,24 +8,11 @@ use slots::Status;
 ghost use mathlib.Core.Path.{_≡_};
 ghost use mathlib.Core.List.{List};
 ghost use Prim.Native.Nat.{ℕ};
-ghost use Rattle.words.specs.Parts.{splice};
-ghost use Rattle.answers.specs.Answers.{answerOf};
-ghost use Rattle.bursts.specs.Room.{roomOf};
 ghost use Rattle.possible.specs.declared.Hca.{Hca};
 ghost use Rattle.handed_back.specs.Handed.{collectHanded, collectRefusal};
 ghost use Rattle.rules.specs.World.{world};
 ghost use Rattle.rules.specs.Collections.{collectOn, collectOf};
-ghost use Rattle.device_collect.specs.Collections.{Answerable, LookedUp};
-
-// Writes the answer of slot k's request, from the slot's part of the room.
-fn write_answer(room: &[u8], k: usize, request: Request, out: &mut [u8])
-    requires { ⌜ Answerable (now room) k request (now out) ⌝ }
-    ensures { λ _. ⌜ now (out .exit) ≡ splice 0 (answerOf request (roomOf k (now (room .entry)))) (now (out .entry)) ⌝ }
-{
-    let base = burst_table::slot_start(k);
-    let end = base + SLOT_ROOM;
-    answers::write_answer(request, &room[base..end], out);
-}
+ghost use Rattle.device_collect.specs.Collections.{LookedUp};
 
 // No slot changes.
 fn refused(row: [Slot; 8], cause: Refusal) -> Collected
@@ -55,7 +40,7 @@ fn collect_slot(row: [Slot; 8], room: &[u8], k: usize, slot: Slot, out: &mut [u8
             if out.len() < size {
                 return refused(row, Refusal::ShortBuffer);
             }
-            write_answer(room, k, request, out);
+            answering::write_answer(room, k, request, out);
             let freed = slot.free();
             Collected {
                 answer: CollectAnswer::Collected(size),

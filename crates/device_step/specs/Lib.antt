@@ -1,3 +1,2 @@
 -- A step on a row by value, as the code makes it.
-pub mod Moves
 pub mod Steps

@@ -1,32 +1,15 @@
 // A step, with the row of slots by value.
 use handed_back::Stepped;
 use possible::Hca;
-use requests::Request;
 use rules::Refusal;
 use rules::StepAnswer;
 use slots::Slot;
 use slots::Status;
 ghost use mathlib.Core.Path.{_≡_};
-ghost use Rattle.records.specs.Calls.{Moving};
 ghost use Rattle.handed_back.specs.Handed.{stepHanded, stepRefusal};
 ghost use Rattle.rules.specs.World.{world};
 ghost use Rattle.rules.specs.Steps.{stepOn, stepOf};
-ghost use Rattle.device_step.specs.Moves.{moved, burstMoved};
-ghost use Rattle.device_step.specs.Steps.{LookedUp};
-
-// Moves burst m of slot k's request.
-fn move_burst(hca: Hca, store: &mut [u8], room: &mut [u8], k: usize, request: Request, m: u8)
-    requires { ⌜ Moving (hca .logs) (now store) (now room) k request m ⌝ }
-    ensures { λ _. ⌜ moved (now (store .exit)) (now (room .exit))
-        ≡ burstMoved hca (now (store .entry)) (now (room .entry)) k request m ⌝ }
-{
-    let logs = hca.logs;
-    if request_kinds::writes(request) {
-        records::write_burst(logs, store, room, k, request, m);
-        return;
-    }
-    records::read_burst(logs, store, room, k, request, m);
-}
+ghost use Rattle.moving.specs.Steps.{LookedUp};
 
 // No slot changes.
 fn refused(row: [Slot; 8], cause: Refusal) -> Stepped
@@ -56,7 +39,7 @@ fn step_slot(
     let Status::Running(m, request) = status else {
         return refused(row, Refusal::NoRequest);
     };
-    move_burst(hca, store, room, k, request, m);
+    moving::move_burst(hca, store, room, k, request, m);
     let next = slot.advance();
     let after = next.slot;
     Stepped {

@@ -3,7 +3,8 @@ use Rattle.words.specs.Choice.{cases}
 use Rattle.rules.specs.World.{badState}
 use Rattle.rules.specs.Steps.{stepOf}
 use Rattle.lengths.specs.Lengths.{lent-told}
-use Rattle.device_step.specs.Steps.{step-refused, looked-up, step-goes}
+use Rattle.moving.specs.Steps.{step-goes}
+use Rattle.device_step.specs.Steps.{step-refused, looked-up}
 use borrow.Author.Needs.{needs}
 use Rattle.device_step.proofs.step.Statement.{statement}
 use Rattle.device_step.proofs.step.Tie as tie

@@ -1,5 +1,6 @@
 -- `device_step::step_slot` meets its contract.
-use Rattle.device_step.specs.Steps.{moving, step-none, step-made}
+use Rattle.moving.specs.Steps.{moving, step-made}
+use Rattle.device_step.specs.Steps.{none-runs}
 use borrow.Author.Needs.{needs}
 use Rattle.device_step.proofs.step_slot.Statement.{statement}
 use Rattle.device_step.proofs.step_slot.Tie as tie
@@ -11,7 +12,7 @@ refused-requires : tie.Need-refused-requires
 refused-requires c κs = search needs
 
 returns : tie.Need-returns
-returns c = search (needs, step-none)
+returns c = search (needs, none-runs)
 
 move-burst-requires : tie.Need-move-burst-requires
 move-burst-requires c κs =

@@ -1,8 +1,8 @@
--- `device_collect::write_answer` meets its contract.
-use Rattle.device_collect.specs.Collections.{answer-made}
+-- `answering::write_answer` meets its contract.
+use Rattle.answering.specs.Answered.{answer-made}
 use borrow.Author.Needs.{needs}
-use Rattle.device_collect.proofs.write_answer.Statement.{statement}
-use Rattle.device_collect.proofs.write_answer.Tie as tie
+use Rattle.answering.proofs.write_answer.Statement.{statement}
+use Rattle.answering.proofs.write_answer.Tie as tie
 
 slot-start-requires : tie.Need-slot-start-requires
 slot-start-requires c κs = search needs

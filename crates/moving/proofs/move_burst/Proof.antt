@@ -1,8 +1,8 @@
--- `device_step::move_burst` meets its contract.
-use Rattle.device_step.specs.Moves.{write-moved, read-moved}
+-- `moving::move_burst` meets its contract.
+use Rattle.moving.specs.Moves.{write-moved, read-moved}
 use borrow.Author.Needs.{needs}
-use Rattle.device_step.proofs.move_burst.Statement.{statement}
-use Rattle.device_step.proofs.move_burst.Tie as tie
+use Rattle.moving.proofs.move_burst.Statement.{statement}
+use Rattle.moving.proofs.move_burst.Tie as tie
 
 writes-requires : tie.Need-writes-requires
 writes-requires c κs = search needs
