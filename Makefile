@@ -1,7 +1,12 @@
 # `make demo` shows the model at work on a sample script, without proving anything; `make replay` proves and builds the program that ran
-# it; `make test` runs all tests, the same as the gate; `make speed` says what a call of an operation costs.
-.PHONY: demo replay test speed kit
+# it; `make test` runs all tests, the same as the gate; `make speed` says what a call of an operation costs; `make clients` runs the
+# programs in C and Rust that use the library; `make install` puts the library, its header and its pkg-config file under PREFIX.
+.PHONY: demo replay test speed clients install kit
 SHELL := bash
+PREFIX ?= /usr/local
+VERSION := 4.0.0
+ECGSLOPE_LIB_DIR ?= target/staticlib
+LIBRARY := $(ECGSLOPE_LIB_DIR)/libecgslope.a
 
 demo: kit
 	@tools/demo
@@ -16,6 +21,22 @@ test: kit
 speed: kit
 	@rt check speed
 	@tools/speed
+
+clients: $(LIBRARY)
+	@tools/clients
+
+install: $(LIBRARY)
+	@install -d $(DESTDIR)$(PREFIX)/include $(DESTDIR)$(PREFIX)/lib/pkgconfig
+	@install -m 644 include/ecgslope.h $(DESTDIR)$(PREFIX)/include
+	@install -m 644 $(LIBRARY) $(DESTDIR)$(PREFIX)/lib
+	@printf '%s\n' 'prefix=$(PREFIX)' 'includedir=$${prefix}/include' 'libdir=$${prefix}/lib' '' 'Name: ecgslope' \
+	    'Description: A proved software model of the control side of the JingZhao RDMA adapter' 'Version: $(VERSION)' \
+	    'Cflags: -I$${includedir}' 'Libs: -L$${libdir} -lecgslope' > $(DESTDIR)$(PREFIX)/lib/pkgconfig/ecgslope.pc
+
+# Proved and built only where it is missing: after a change, `rt staticlib ecgslope` brings it up to date.
+target/staticlib/libecgslope.a:
+	@$(MAKE) -s kit
+	@rt staticlib ecgslope
 
 kit:
 	@command -v rt >/dev/null || { echo "rt is missing: install the Rattle kit and put its rt on the PATH" >&2; exit 1; }
