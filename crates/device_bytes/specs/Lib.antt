@@ -1,3 +1,4 @@
 -- The bytes of the C interface's device.
 pub mod Decoding
 pub mod Encoding
+pub mod Walks

@@ -1,0 +1,2 @@
+-- The state and the row from their bytes.
+pub mod Reading

@@ -1,0 +1,2 @@
+-- A moved slot and the header as their bytes.
+pub mod Writing

@@ -1,0 +1,2 @@
+-- A slot from its bytes.
+pub mod Reading

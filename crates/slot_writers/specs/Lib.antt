@@ -1,0 +1,2 @@
+-- A slot as its bytes.
+pub mod Writing
