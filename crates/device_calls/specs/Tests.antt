@@ -57,6 +57,15 @@ module _ (dev : List ℕ) (store room : ℕ) (h : Hca) (sized : length dev ≡ 2
     unfolding firstNumber
     first-passed e = rw (eq-eqb (length dev) 288 sized, told, passed, state, e)
 
+-- a device that passed them has its length
+pub passed-sized : (dev : List ℕ) (store room n : ℕ) → n ≡ firstNumber dev store room → n ≡ 0 → length dev ≡ 288
+unfolding firstNumber
+passed-sized dev store room n e z = go (ℕ-discrete (length dev) 288)
+  where
+    go : Dec (length dev ≡ 288) → length dev ≡ 288
+    go (yes l) = l
+    go (no m) = let f : _≡_ {A = ℕ} 0 0x83 = sym z ∙ e ∙ rw (ne-eqb (length dev) 288 m) in absurd (omega arith)
+
 -- ---- what they say of the world
 
 -- a device of 288 bytes has eight slots, whatever they hold

@@ -71,9 +71,9 @@ module _ {h : Hca} {dev store room : List ℕ} {k : ℕ} (r : Ready h dev store 
   unfolding stepLeft
   moved-left {q = q} {m = m} out room-out after a n e burst next put count =
       let there : slotIn (set (rowOf dev) k (a .slot)) k ≡ a .slot =
-          getD-set-same (rowOf dev) k (a .slot) (slot Free) (omega (arith, eight dev (r .passed .sized), r .below)) in
+      getD-set-same (rowOf dev) k (a .slot) (slot Free) (omega (arith, eight dev (r .passed .sized), r .below)) in
       let same : moved out room-out ≡ burstMoved (hcaOf dev) store room k q m =
-          burst ∙ ap (λ (x : Hca). burstMoved x store room k q m) (r .is) in
+      burst ∙ ap (λ (x : Hca). burstMoved x store room k q m) (r .is) in
       rw (put, count)
       (ap (λ (x : Slot). left (256 * a .left) (putMoved k x dev) out room-out) (sym there)
       ∙ ap (stepLeft dev k)

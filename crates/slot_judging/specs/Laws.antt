@@ -45,16 +45,16 @@ module _ (g : Logs) (m : ℕ) where
   -- a and b: the status is 1, is 2
   says-request : (q : Held) (a b : Bool)
       → Says g
-        (pick (numbersHold g q) (pick a (record { wrong = not (ltb m (totalOf q)); command = isCommand q; hold = requestHold q })
-        (pick b (record { wrong = not (eqb m (totalOf q)); command = isCommand q; hold = noHold }) bad)) bad)
-        (pick a (Running m q) (pick b (Finished m q) broken))
+      (pick (numbersHold g q) (pick a (record { wrong = not (ltb m (totalOf q)); command = isCommand q; hold = requestHold q })
+      (pick b (record { wrong = not (eqb m (totalOf q)); command = isCommand q; hold = noHold }) bad)) bad)
+      (pick a (Running m q) (pick b (Finished m q) broken))
   says-request q a b = go (numbersHold g q) refl a b
     where
       go : (n : Bool) → numbersHold g q ≡ n → (a b : Bool)
           → Says g
-            (pick (numbersHold g q) (pick a (record { wrong = not (ltb m (totalOf q)); command = isCommand q; hold = requestHold q })
-            (pick b (record { wrong = not (eqb m (totalOf q)); command = isCommand q; hold = noHold }) bad)) bad)
-            (pick a (Running m q) (pick b (Finished m q) broken))
+          (pick (numbersHold g q) (pick a (record { wrong = not (ltb m (totalOf q)); command = isCommand q; hold = requestHold q })
+          (pick b (record { wrong = not (eqb m (totalOf q)); command = isCommand q; hold = noHold }) bad)) bad)
+          (pick a (Running m q) (pick b (Finished m q) broken))
       go true e true b = record { wrong = rw e refl; command = rw e (λ f. refl); hold = rw e (λ f. refl) }
       go true e false true = record { wrong = rw e refl; command = rw e (λ f. refl); hold = rw e (λ f. refl) }
       go true e false false = rw e (says-broken g)

@@ -56,7 +56,7 @@ one-test false x y = refl
 -- a command has one record, and no PSN
 command-judged : (g : Logs) (code m : ℕ) (c : Command) → judgedRequest g code m (Request (request.Command c))
     ≡ pick (isRecord g (commandRecord c))
-      (judgedBy code m (totalOf (request.Command c)) true (oneHold (recordCode (commandRecord c)) (commandWrites c))) bad
+    (judgedBy code m (totalOf (request.Command c)) true (oneHold (recordCode (commandRecord c)) (commandWrites c))) bad
 unfolding numbersHold
 command-judged g code m c = one-test (isRecord g (commandRecord c)) _ bad
 
@@ -64,7 +64,7 @@ module _ (g : Logs) (o : Op) (modifier n code m : ℕ) (h : n < 2 ^ 32) where
   -- a served op on a record: its op_modifier is judged
   served : (c : Command) → commandOn o n ≡ found.OnRecord c → inModifierRight anyIndex o n ≡ ltb n (2 ^ 32)
       → pick (eqb modifier (opModifierOf o)) (judgedRequest g code m (Request (request.Command c))) bad
-        ≡ judgedRequest g code m (onRecord (readCommand anyIndex o modifier n))
+      ≡ judgedRequest g code m (onRecord (readCommand anyIndex o modifier n))
   unfolding commandRight
   served c e i =
       sym (ap judge (command-read anyIndex o modifier n)
@@ -82,8 +82,8 @@ module _ (g : Logs) (o : Op) (modifier n code m : ℕ) (h : n < 2 ^ 32) where
   -- an op on one record of a kind
   on-one : (c : Command) → commandOn o n ≡ found.OnRecord c → inModifierRight anyIndex o n ≡ ltb n (2 ^ 32)
       → pick (eqb modifier (opModifierOf o)) (pick (isRecord g (commandRecord c))
-        (judgedBy code m (totalOf (request.Command c)) true (oneHold (recordCode (commandRecord c)) (commandWrites c))) bad) bad
-        ≡ judgedRequest g code m (onRecord (readCommand anyIndex o modifier n))
+      (judgedBy code m (totalOf (request.Command c)) true (oneHold (recordCode (commandRecord c)) (commandWrites c))) bad) bad
+      ≡ judgedRequest g code m (onRecord (readCommand anyIndex o modifier n))
   on-one c e i =
       ap (λ (j : Judged). pick (eqb modifier (opModifierOf o)) j bad) (sym (command-judged g code m c)) ∙ served c e i
 
@@ -141,7 +141,7 @@ module _ (g : Logs) (n code m : ℕ) (b : List ℕ) where
 
   pub number-judged : (k : EngineNumber) → n < 2 ^ 32
       → queuePairJudged g k n b code m
-        ≡ judgedRequest g code m (engineHeld (le32 12 b) (le32 16 b) (readEngine anyIndex k n (le32 20 b) (getD b 24 0)))
+      ≡ judgedRequest g code m (engineHeld (le32 12 b) (le32 16 b) (readEngine anyIndex k n (le32 20 b) (getD b 24 0)))
   unfolding judgeHeld engineRight
   number-judged k h =
       number-is k
