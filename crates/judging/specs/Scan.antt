@@ -13,9 +13,8 @@ use Rattle.words.specs.Parts.{part, getD-part}
 use Rattle.words.specs.Tests.{neither-left, neither-right, both-false}
 use Rattle.context.specs.declared.Logs.{Logs}
 use Rattle.slots.specs.Slots.{slot, hasCommand}
-use Rattle.slots.specs.declared.Slot.{Slot}
 use Rattle.slots.specs.declared.Status.the-variants.{Free}
-use Rattle.rows.specs.Rows.{anySlot, emptyRow}
+use Rattle.rows.specs.Rows.{anySlot}
 use Rattle.rows.specs.Every.{at, none-each, each-none}
 use Rattle.slot_checks.specs.SlotChecks.{slotWrong}
 use Rattle.possible.specs.Possible.{bothCommands, slotsClash}
@@ -117,7 +116,9 @@ module _ (g : Logs) (dev : List ℕ) where
     passed-more right lone f =
         let more : set (slotsOf k dev) k (slotAt k dev) ≡ slotsOf (k + 1) dev = more-slots dev (slotsOf k dev) k (slotAt k dev) refl refl in
         record {
-          rows = ap (λ (l : List Hold). set l k (holdOf (slotAt k dev))) (p .rows) ∙ holds-set (slotsOf k dev) k (slotAt k dev) ∙ ap holdsRow more;
+          rows =
+              ap (λ (l : List Hold). set l k (holdOf (slotAt k dev))) (p .rows) ∙ holds-set (slotsOf k dev) k (slotAt k dev)
+              ∙ ap holdsRow more;
           sound = rw more at (sound-changed g (slotsOf k dev) k (slotAt k dev) right beside apart (p .sound));
           commands = counted ∙ ap (anySlot hasCommand) more;
         }
@@ -139,7 +140,8 @@ module _ (g : Logs) (dev : List ℕ) where
         counted : either c (hasCommand (slotAt k dev)) ≡ anySlot hasCommand (set (slotsOf k dev) k (slotAt k dev))
         counted =
             ap (λ (b : Bool). either b (hasCommand (slotAt k dev))) (p .commands)
-            ∙ set-any (slotsOf k dev) k (slotAt k dev) (omega (arith, length-slots k dev)) (ap hasCommand (free-behind k dev k (omega arith)))
+            ∙ set-any (slotsOf k dev) k (slotAt k dev) (omega (arith, length-slots k dev))
+            (ap hasCommand (free-behind k dev k (omega arith)))
 
 -- ---- as the code has them: j is what is judged of slot k, b what a call answered
 

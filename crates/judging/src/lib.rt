@@ -78,8 +78,8 @@ fn any_occupied(dev: &[u8]) -> bool
     requires { ⌜ length (now dev) ≡ 288 ⌝ }
     ensures { λ r. ⌜ r ≡ anySlot isOccupied (slotsOf 8 (now (dev .entry))) ⌝ }
 {
-    for i in 0..8 {
-        if dev[32 + i * 32] != 0 {
+    for k in 0..8 {
+        if dev[32 + k * 32] != 0 {
             return true;
         }
     }

@@ -102,7 +102,17 @@ fn one(code: u64, writes: bool) -> Hold
 }
 
 // A command on record `index` of a table with the count 2^log; `wanted` is its op_modifier.
-fn on_record(log: u8, kind: u64, total: u8, modifier: u8, wanted: u8, index: u32, code: u8, moved: u8, writes: bool) -> Judged
+fn on_record(
+    log: u8,
+    kind: u64,
+    total: u8,
+    modifier: u8,
+    wanted: u8,
+    index: u32,
+    code: u8,
+    moved: u8,
+    writes: bool,
+) -> Judged
     requires { ⌜ kind ≤ 4 ⌝ }
     ensures { λ r. ⌜ r ≡ recordJudged log kind total modifier wanted index code moved writes ⌝ }
 {
@@ -137,7 +147,17 @@ fn on_op(logs: Logs, op: Op, modifier: u8, index: u32, code: u8, moved: u8) -> J
         Op::Hw2Sw(table) => on_table(logs, table, modifier, index, code, moved),
         Op::ResizeCq => on_record(logs.cqs, 2, 4, modifier, 0, index, code, moved, true),
         Op::QueryQp => on_record(logs.qps, 1, 16, modifier, 0, index, code, moved, false),
-        Op::ModifyQp(edge) => on_record(logs.qps, 1, 16, modifier, commands::edge_modifier(edge), index, code, moved, true),
+        Op::ModifyQp(edge) => on_record(
+            logs.qps,
+            1,
+            16,
+            modifier,
+            commands::edge_modifier(edge),
+            index,
+            code,
+            moved,
+            true,
+        ),
     }
 }
 
@@ -255,7 +275,14 @@ pub fn judge(logs: Logs, s: &[u8]) -> Judged
         return command(logs, commands::read_op(op), s[3], index, code, moved);
     }
     if kind == 1 {
-        return engine(logs, engines::read_number(wide32(op)), index, s, code, moved);
+        return engine(
+            logs,
+            engines::read_number(wide32(op)),
+            index,
+            s,
+            code,
+            moved,
+        );
     }
     wrong()
 }
