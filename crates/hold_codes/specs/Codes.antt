@@ -1,5 +1,5 @@
 -- What a slot holds, as the codes of its records, and whether two slots clash by them (01, Bursts, slots and holds).
-use mathlib.Core.Bool.{Bool, true, false}
+use mathlib.Core.Bool.{Bool, false}
 use Prim.Native.Nat.{ℕ, _+_, _*_}
 use lib.Dec.{eqb}
 use Rattle.words.specs.Choice.{pick, either}

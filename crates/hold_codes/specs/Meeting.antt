@@ -7,7 +7,7 @@ use native.Mathlib.Decide.{ℕ-discrete}
 use native.Mathlib.Omega.{arith}
 use borrow.Author.Tests.{eq-eqb, ne-eqb}
 use lib.Dec.{eqb, lit<}
-use Rattle.words.specs.Choice.{pick, both, either}
+use Rattle.words.specs.Choice.{both, either}
 use Rattle.words.specs.Tests.{either-false, both-false}
 use Rattle.context.specs.Layout.{kindOf, numberOf, kindCode, sameRecord}
 use Rattle.context.specs.declared.Kind.{Kind}
@@ -24,7 +24,7 @@ use Rattle.slots.specs.Slots.{Held}
 use Rattle.slots.specs.declared.Slot.{Slot}
 use Rattle.slots.specs.declared.Status.{Status}
 use Rattle.slots.specs.declared.Status.the-variants.{Free, Running, Finished}
-use Rattle.holds.specs.Holds.{clashPair, clashRecords}
+use Rattle.holds.specs.Holds.{clashRecords}
 use Rattle.holds.specs.Laws.{clash-symmetric}
 use Rattle.possible.specs.Possible.{statusesClash, slotsClash}
 use Rattle.hold_codes.specs.Codes.{recordCode, noHold, oneHold, holdOn, requestHold, holdStatus, holdOf, hasCode, holdsMeet}

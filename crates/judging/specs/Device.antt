@@ -5,13 +5,12 @@ use mathlib.Core.List.{List}
 use Prim.Native.Nat.{ℕ, _+_, _*_, _≤_, _<_}
 use native.Mathlib.Nat.{add-zero}
 use native.Mathlib.Omega.{arith}
-use borrow.Author.Tests.{not-true, not-false, lt-ltb, le-ltb, eq-eqb, ne-eqb}
+use borrow.Author.Tests.{not-true, not-false, lt-ltb, le-ltb, ne-eqb}
 use lib.Dec.{lit<, eqb}
 use lib.ListN.{length, getD}
-use Rattle.words.specs.Choice.{pick, either}
+use Rattle.words.specs.Choice.{pick}
 use Rattle.words.specs.Parts.{part, getD-part}
 use Rattle.context.specs.Layout.{fitsStore}
-use Rattle.context.specs.declared.Logs.{Logs}
 use Rattle.slots.specs.Slots.{slot, occupiedStatus, isOccupied}
 use Rattle.slots.specs.declared.Slot.{Slot}
 use Rattle.slots.specs.declared.Status.the-variants.{Running, Finished}
@@ -114,6 +113,7 @@ module _ (h : Hca) (dev : List ℕ) (l : length dev ≡ 288) where
   unfolding impossible openDevice
   device-open b k o e = rw (slots-are k, o) e
 
-  pub device-closed : (b : Bool) → getD dev 0 0 ≤ 1 → h .«open» ≡ false → b ≡ anySlot isOccupied (slotsOf 8 dev) → b ≡ impossible h (rowOf dev)
+  pub device-closed : (b : Bool) → getD dev 0 0 ≤ 1 → h .«open» ≡ false → b ≡ anySlot isOccupied (slotsOf 8 dev)
+      → b ≡ impossible h (rowOf dev)
   unfolding impossible
   device-closed b k o e = rw (slots-are k, o) e

@@ -8,14 +8,13 @@ use native.Mathlib.Nat.{add-zero, add-sub-cancel-left}
 use native.Mathlib.Omega.{arith}
 use lib.Dec.{lit<}
 use lib.ListN.{getD, set, replicate, take, drop}
-use Rattle.words.specs.Choice.{both, either, both-left, both-right}
+use Rattle.words.specs.Choice.{both, either, both-left, both-right, both-yes}
 use Rattle.words.specs.Parts.{part, getD-part}
-use Rattle.words.specs.Tests.{neither-left, neither-right, both-false}
+use Rattle.words.specs.Tests.{both-false, either-false}
 use Rattle.context.specs.declared.Logs.{Logs}
 use Rattle.slots.specs.Slots.{slot, hasCommand}
-use Rattle.slots.specs.declared.Slot.{Slot}
 use Rattle.slots.specs.declared.Status.the-variants.{Free}
-use Rattle.rows.specs.Rows.{anySlot, emptyRow}
+use Rattle.rows.specs.Rows.{anySlot}
 use Rattle.rows.specs.Every.{at, none-each, each-none}
 use Rattle.slot_checks.specs.SlotChecks.{slotWrong}
 use Rattle.possible.specs.Possible.{bothCommands, slotsClash}
@@ -117,7 +116,9 @@ module _ (g : Logs) (dev : List ℕ) where
     passed-more right lone f =
         let more : set (slotsOf k dev) k (slotAt k dev) ≡ slotsOf (k + 1) dev = more-slots dev (slotsOf k dev) k (slotAt k dev) refl refl in
         record {
-          rows = ap (λ (l : List Hold). set l k (holdOf (slotAt k dev))) (p .rows) ∙ holds-set (slotsOf k dev) k (slotAt k dev) ∙ ap holdsRow more;
+          rows =
+              ap (λ (l : List Hold). set l k (holdOf (slotAt k dev))) (p .rows) ∙ holds-set (slotsOf k dev) k (slotAt k dev)
+              ∙ ap holdsRow more;
           sound = rw more at (sound-changed g (slotsOf k dev) k (slotAt k dev) right beside apart (p .sound));
           commands = counted ∙ ap (anySlot hasCommand) more;
         }
@@ -139,9 +140,22 @@ module _ (g : Logs) (dev : List ℕ) where
         counted : either c (hasCommand (slotAt k dev)) ≡ anySlot hasCommand (set (slotsOf k dev) k (slotAt k dev))
         counted =
             ap (λ (b : Bool). either b (hasCommand (slotAt k dev))) (p .commands)
-            ∙ set-any (slotsOf k dev) k (slotAt k dev) (omega (arith, length-slots k dev)) (ap hasCommand (free-behind k dev k (omega arith)))
+            ∙ set-any (slotsOf k dev) k (slotAt k dev) (omega (arith, length-slots k dev))
+            (ap hasCommand (free-behind k dev k (omega arith)))
 
--- ---- as the code has them: j is what is judged of slot k, b what a call answered
+-- ---- commands: c says whether one was seen, b whether this slot has one, d what is then seen
+
+pub record Seen (c b d : Bool) : Type 0 where
+  pub counted : d ≡ either c b
+  pub lone : both c b ≡ false
+
+pub seen-more : (c b d : Bool) → b ≡ true → c ≡ false → d ≡ true → Seen c b d
+seen-more c b d e f i = record { counted = i ∙ rw (e, f); lone = rw f }
+
+pub seen-same : (c b d : Bool) → b ≡ false → d ≡ c → Seen c b d
+seen-same c b d e i = record { counted = i ∙ rw e (sym (either-false c)); lone = both-false c b e }
+
+-- ---- as the code has them: j is what is judged of slot k
 
 module _ (g : Logs) (dev : List ℕ) (k : ℕ) (holds : List Hold) (c : Bool) (j : Judged) (h : k < 8) (p : Passed g dev k holds c)
     (some : ¬ (getD dev (32 + k * 32) 0 ≡ 0)) (e : j ≡ judgedAt g k dev) where
@@ -157,18 +171,12 @@ module _ (g : Logs) (dev : List ℕ) (k : ℕ) (holds : List Hold) (c : Bool) (j
   is-hold : j .wrong ≡ false → j .hold ≡ holdOf (slotAt k dev)
   is-hold f = ap (λ (x : Judged). x .hold) e ∙ at-hold g k dev some (right-at f)
 
-  pub stop-told : (b : Bool) → b ≡ either (j .wrong) (both c (j .command)) → b ≡ true → true ≡ slotsImpossible g (slotsOf 8 dev)
-  stop-told b s t = go (j .wrong) refl
-    where
-      go : (w : Bool) → j .wrong ≡ w → true ≡ slotsImpossible g (slotsOf 8 dev)
-      go true f = bad-found g dev k h holds c p (sym is-wrong ∙ f)
-      go false f =
-          let two : both c (j .command) ≡ true = rw f at (sym s ∙ t) in
-          command-found g dev k h holds c p (ap (both c) (sym (is-command f)) ∙ two)
+  pub wrong-told : j .wrong ≡ true → true ≡ slotsImpossible g (slotsOf 8 dev)
+  wrong-told f = bad-found g dev k h holds c p (sym is-wrong ∙ f)
 
-  module _ (b : Bool) (s : b ≡ either (j .wrong) (both c (j .command))) (t : b ≡ false) where
-    right : j .wrong ≡ false
-    right = neither-left (j .wrong) (both c (j .command)) (sym s ∙ t)
+  module _ (right : j .wrong ≡ false) where
+    pub second-told : j .command ≡ true → c ≡ true → true ≡ slotsImpossible g (slotsOf 8 dev)
+    second-told f i = command-found g dev k h holds c p (both-yes c (hasCommand (slotAt k dev)) i (sym (is-command right) ∙ f))
 
     meets : (i : ℕ) → holdsMeet (j .hold) (getD holds i noHold) ≡ slotsClash (slotAt k dev) (at (slotsOf k dev) i)
     meets i =
@@ -179,12 +187,12 @@ module _ (g : Logs) (dev : List ℕ) (k : ℕ) (holds : List Hold) (c : Bool) (j
         → true ≡ slotsImpossible g (slotsOf 8 dev)
     clash-told i d l m n = clash-found g dev k h holds c p i l (sym (meets i) ∙ sym m ∙ n)
 
-    pub more-told : (i : ℕ) (d : Bool) → ((m : ℕ) → m < i → holdsMeet (j .hold) (getD holds m noHold) ≡ false) → k ≤ i
-        → d ≡ either c (j .command) → Passed g dev (k + 1) (set holds k (j .hold)) d
-    more-told i d a l n =
-        rw (n, is-hold right, is-command right)
-        (passed-more g dev k h holds c p (sym is-wrong ∙ right)
-        (ap (both c) (sym (is-command right)) ∙ neither-right (j .wrong) (both c (j .command)) (sym s ∙ t))
+    pub more-told : (i : ℕ) (d : Bool) → Seen c (j .command) d
+        → ((m : ℕ) → m < i → holdsMeet (j .hold) (getD holds m noHold) ≡ false) → k ≤ i
+        → Passed g dev (k + 1) (set holds k (j .hold)) d
+    more-told i d n a l =
+        rw (n .counted, is-hold right, is-command right)
+        (passed-more g dev k h holds c p (sym is-wrong ∙ right) (ap (both c) (sym (is-command right)) ∙ n .lone)
         (λ m y. sym (meets m) ∙ a m (omega arith)))
 
 pub clear-told : (x : Hold) (holds : List Hold) (j : ℕ) (b : Bool) → ((m : ℕ) → m < j → holdsMeet x (getD holds m noHold) ≡ false)

@@ -1,16 +1,15 @@
 -- What is known of slots of which none is wrong and no two of which do not go together, and that one more such slot keeps it.
-use mathlib.Core.Path.{_≡_, refl, sym, _∙_, ap}
-use mathlib.Core.Bool.{Bool, true, false, false≢true}
+use mathlib.Core.Path.{_≡_, refl, _∙_, ap}
+use mathlib.Core.Bool.{Bool, true, false}
 use mathlib.Core.List.{List, [], _∷_}
 use Prim.Native.Nat.{ℕ, zero, suc, _<_}
 use native.Mathlib.Omega.{arith}
-use lib.ListN.{length, getD, set, replicate}
+use lib.ListN.{length, getD, set}
 use Rattle.words.specs.Choice.{either}
 use Rattle.words.specs.Tests.{neither-left, neither-right, neither, either-swap, either-assoc}
 use Rattle.context.specs.declared.Logs.{Logs}
 use Rattle.slots.specs.Slots.{slot, hasCommand}
 use Rattle.slots.specs.declared.Slot.{Slot}
-use Rattle.slots.specs.declared.Status.the-variants.{Free}
 use Rattle.rows.specs.Rows.{anySlot, emptyRow}
 use Rattle.rows.specs.Every.{at, None, NoTwo, none-each, each-none, none-set, pairs-set}
 use Rattle.slot_checks.specs.SlotChecks.{slotWrong}

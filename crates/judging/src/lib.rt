@@ -6,7 +6,6 @@ use slot_judging::Judged;
 ghost use mathlib.Core.Path.{_≡_};
 ghost use Prim.Native.Nat.{_<_};
 ghost use lib.ListN.{length};
-ghost use Rattle.words.specs.Choice.{both, either};
 ghost use Rattle.slots.specs.Slots.{isOccupied};
 ghost use Rattle.rows.specs.Rows.{anySlot};
 ghost use Rattle.possible.specs.Possible.{impossible};
@@ -23,28 +22,6 @@ fn judge_at(logs: Logs, dev: &[u8], k: usize) -> Judged
     slot_judging::judge(logs, &dev[at..end])
 }
 
-// Whether a slot is wrong by itself, or has a command where one was seen.
-fn stops(wrong: bool, command: bool, seen: bool) -> bool
-    ensures { λ r. ⌜ r ≡ either wrong (both seen command) ⌝ }
-{
-    if wrong {
-        return true;
-    }
-    if seen {
-        return command;
-    }
-    false
-}
-
-fn either_one(a: bool, b: bool) -> bool
-    ensures { λ r. ⌜ r ≡ either a b ⌝ }
-{
-    if a {
-        return true;
-    }
-    b
-}
-
 // Whether a slot of an open state is wrong by itself, or two do not go together: two commands, or holds that clash.
 fn slots_impossible(logs: Logs, dev: &[u8]) -> bool
     requires { ⌜ length (now dev) ≡ 288 ⌝ }
@@ -58,8 +35,14 @@ fn slots_impossible(logs: Logs, dev: &[u8]) -> bool
             continue;
         }
         let judged = judge_at(logs, dev, i);
-        if stops(judged.wrong, judged.command, seen) {
+        if judged.wrong {
             return true;
+        }
+        if judged.command {
+            if seen {
+                return true;
+            }
+            seen = true;
         }
         let hold = judged.hold;
         for j in 0..i {
@@ -67,7 +50,6 @@ fn slots_impossible(logs: Logs, dev: &[u8]) -> bool
                 return true;
             }
         }
-        seen = either_one(seen, judged.command);
         holds[i] = hold;
     }
     false
@@ -78,8 +60,8 @@ fn any_occupied(dev: &[u8]) -> bool
     requires { ⌜ length (now dev) ≡ 288 ⌝ }
     ensures { λ r. ⌜ r ≡ anySlot isOccupied (slotsOf 8 (now (dev .entry))) ⌝ }
 {
-    for i in 0..8 {
-        if dev[32 + i * 32] != 0 {
+    for k in 0..8 {
+        if dev[32 + k * 32] != 0 {
             return true;
         }
     }

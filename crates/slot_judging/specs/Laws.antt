@@ -1,5 +1,5 @@
 -- What is judged of an occupied slot's bytes is what 0x87's conditions ask of the slot (01, Numbers returned).
-use mathlib.Core.Path.{_≡_, refl, sym, _∙_, ap}
+use mathlib.Core.Path.{_≡_, refl, sym}
 use mathlib.Core.Bool.{Bool, true, false, not, false≢true}
 use mathlib.Core.List.{List}
 use Prim.Native.Nat.{ℕ}
@@ -16,11 +16,10 @@ use Rattle.slot_requests.specs.declared.RequestFound.{RequestFound}
 use Rattle.slot_requests.specs.declared.RequestFound.the-variants.{Request, Wrong}
 use Rattle.slots.specs.Slots.{Held, slot, commandStatus, hasCommand}
 use Rattle.slots.specs.declared.Status.{Status}
-use Rattle.slots.specs.declared.Status.the-variants.{Free, Running, Finished}
+use Rattle.slots.specs.declared.Status.the-variants.{Running, Finished}
 use Rattle.slot_checks.specs.SlotChecks.{statusWrong, slotWrong}
 use Rattle.device_bytes.specs.Decoding.{requestIn, broken, statusHeld, statusOf}
 use Rattle.hold_codes.specs.Codes.{noHold, requestHold, holdStatus, holdOf}
-use Rattle.hold_codes.specs.declared.Hold.{Hold}
 use Rattle.slot_judging.specs.Judging.{bad, judgedBy, judgedRequest, judgedOf}
 use Rattle.slot_judging.specs.declared.Judged.{Judged}
 

@@ -6,15 +6,13 @@ use Prim.Native.Nat.{ℕ, _+_, _*_, _≤_, _<_, _^_}
 use borrow.Author.Tests.{lt-ltb, ne-eqb, le-leb, lt-leb, not-true, not-false}
 use lib.Dec.{eqb, ltb, leb}
 use lib.ListN.{getD}
-use Rattle.words.specs.Choice.{pick, both, pick-both}
+use Rattle.words.specs.Choice.{pick, both}
 use Rattle.words.specs.Words.{le32}
 use Rattle.context.specs.Layout.{isRecord}
 use Rattle.context.specs.declared.Logs.{Logs}
-use Rattle.context.specs.declared.Record.the-variants as rec
 use Rattle.requests.specs.Psns.{psnFits}
 use Rattle.requests.specs.declared.Command.{Command}
 use Rattle.requests.specs.declared.Command.the-variants as command
-use Rattle.requests.specs.declared.EngineRequest.the-variants as engine
 use Rattle.requests.specs.declared.Request.the-variants as request
 use Rattle.commands.specs.Commands.{readOp, opModifierOf, readCommand, commandRight, inModifierRight, commandOn, ownedAt}
 use Rattle.commands.specs.Reading.{command-read}
@@ -34,7 +32,6 @@ use Rattle.engines.specs.declared.NumberFound.{NumberFound}
 use Rattle.request_table.specs.Records.{commandRecord, commandWrites, numbersHold}
 use Rattle.burst_table.specs.Bursts.{totalOf}
 use Rattle.slot_requests.specs.Requests.{anyIndex, onRecord, withOp}
-use Rattle.slot_requests.specs.declared.RequestFound.{RequestFound}
 use Rattle.slot_requests.specs.declared.RequestFound.the-variants.{Request, Wrong}
 use Rattle.device_bytes.specs.Decoding.{engineHeld, opField, requestIn}
 use Rattle.hold_codes.specs.Codes.{recordCode, oneHold, threeHold}
@@ -100,15 +97,23 @@ unfolding readCommand isRecord recordJudged
 op-judged g op.InitHca modifier n code m h = none-judged g code m (eqb modifier 0) (eqb n 0) found.InitHca refl
 op-judged g op.CloseHca modifier n code m h = none-judged g code m (eqb modifier 0) (eqb n 0) found.CloseHca refl
 op-judged g op.Nop modifier n code m h = none-judged g code m (eqb modifier 0) (eqb n 0) found.Nop refl
-op-judged g (op.Sw2Hw table.Mpt) modifier n code m h = on-one g (op.Sw2Hw table.Mpt) modifier n code m h (command.Sw2Hw (ownedAt table.Mpt n)) refl refl
-op-judged g (op.Sw2Hw table.Eq) modifier n code m h = on-one g (op.Sw2Hw table.Eq) modifier n code m h (command.Sw2Hw (ownedAt table.Eq n)) refl refl
-op-judged g (op.Sw2Hw table.Cq) modifier n code m h = on-one g (op.Sw2Hw table.Cq) modifier n code m h (command.Sw2Hw (ownedAt table.Cq n)) refl refl
-op-judged g (op.Hw2Sw table.Mpt) modifier n code m h = on-one g (op.Hw2Sw table.Mpt) modifier n code m h (command.Hw2Sw (ownedAt table.Mpt n)) refl refl
-op-judged g (op.Hw2Sw table.Eq) modifier n code m h = on-one g (op.Hw2Sw table.Eq) modifier n code m h (command.Hw2Sw (ownedAt table.Eq n)) refl refl
-op-judged g (op.Hw2Sw table.Cq) modifier n code m h = on-one g (op.Hw2Sw table.Cq) modifier n code m h (command.Hw2Sw (ownedAt table.Cq n)) refl refl
+op-judged g (op.Sw2Hw table.Mpt) modifier n code m h =
+    on-one g (op.Sw2Hw table.Mpt) modifier n code m h (command.Sw2Hw (ownedAt table.Mpt n)) refl refl
+op-judged g (op.Sw2Hw table.Eq) modifier n code m h =
+    on-one g (op.Sw2Hw table.Eq) modifier n code m h (command.Sw2Hw (ownedAt table.Eq n)) refl refl
+op-judged g (op.Sw2Hw table.Cq) modifier n code m h =
+    on-one g (op.Sw2Hw table.Cq) modifier n code m h (command.Sw2Hw (ownedAt table.Cq n)) refl refl
+op-judged g (op.Hw2Sw table.Mpt) modifier n code m h =
+    on-one g (op.Hw2Sw table.Mpt) modifier n code m h (command.Hw2Sw (ownedAt table.Mpt n)) refl refl
+op-judged g (op.Hw2Sw table.Eq) modifier n code m h =
+    on-one g (op.Hw2Sw table.Eq) modifier n code m h (command.Hw2Sw (ownedAt table.Eq n)) refl refl
+op-judged g (op.Hw2Sw table.Cq) modifier n code m h =
+    on-one g (op.Hw2Sw table.Cq) modifier n code m h (command.Hw2Sw (ownedAt table.Cq n)) refl refl
 op-judged g op.ResizeCq modifier n code m h = on-one g op.ResizeCq modifier n code m h (command.ResizeCq (record { 0 = n })) refl refl
 op-judged g op.QueryQp modifier n code m h = on-one g op.QueryQp modifier n code m h (command.QueryQp (record { 0 = n })) refl refl
-op-judged g (op.ModifyQp e) modifier n code m h = on-one g (op.ModifyQp e) modifier n code m h (command.ModifyQp e (record { 0 = n })) refl refl
+op-judged g (op.ModifyQp e) modifier n code m h =
+    on-one g (op.ModifyQp e) modifier n code m h
+    (command.ModifyQp e (record { 0 = n })) refl refl
 
 -- ---- engine requests
 

@@ -62,10 +62,11 @@ fn running(moved: u8, total: u8, command: bool, hold: Hold) -> Judged
 fn finished(moved: u8, total: u8, command: bool, hold: Hold) -> Judged
     ensures { λ r. ⌜ r ≡ judgedBy 2 moved total command hold ⌝ }
 {
+    let none = hold_codes::nothing();
     Judged {
         wrong: moved != total,
         command: command,
-        hold: hold_codes::nothing(),
+        hold: none,
     }
 }
 

@@ -9,48 +9,37 @@ use Rattle.device_bytes.specs.Decoding.{slotsOf}
 use Rattle.judging.specs.Device.{occupied-none, occupied-more, occupied-all, occupied-found}
 use Rattle.judging.proofs.any_occupied.Statement.{statement}
 use Rattle.judging.proofs.any_occupied.Tie as tie
-use Rattle.judging.proofs.any_occupied.Reads as reads
-use Rattle.judging.proofs.any_occupied.Lts as lts
 
 abbrev Inv-loop : tie.InvT-loop
-Inv-loop dev i₀ i = (i ≤ 8) × (anySlot isOccupied (slotsOf i dev) ≡ false)
+Inv-loop dev k₀ k = (k ≤ 8) × (anySlot isOccupied (slotsOf k dev) ≡ false)
 
 abbrev μ-loop : tie.MeasureT-loop
-μ-loop dev i₀ i = 8 - i
+μ-loop dev k₀ k = 8 - k
 
--- src/lib.rt:81:5
 loop-holds : tie.Need-loop-holds Inv-loop μ-loop
 loop-holds c = (search needs, occupied-none _)
 
--- src/lib.rt:82:21
 mul-if1 : tie.Need-mul-if1 Inv-loop μ-loop
 mul-if1 c = search needs
 
--- src/lib.rt:82:16
 add-if1 : tie.Need-add-if1 Inv-loop μ-loop
 add-if1 c = search needs
 
--- src/lib.rt:82:12
 shared-slice-read-if1 : tie.Need-shared-slice-read-if1 Inv-loop μ-loop
 shared-slice-read-if1 c = search needs
 
--- src/lib.rt:83:13
 returns : tie.Need-returns Inv-loop μ-loop
 returns c = occupied-found _ _ (c .before .before .loop-test .taken) (c .if1 .taken)
 
--- src/lib.rt:81:9
-add-i : tie.Need-add-i Inv-loop μ-loop
-add-i c = search needs
+add-k : tie.Need-add-k Inv-loop μ-loop
+add-k c = search needs
 
--- src/lib.rt:81:5
 loop-less : tie.Need-loop-less Inv-loop μ-loop
 loop-less c = search needs
 
--- src/lib.rt:81:5
 loop-again : tie.Need-loop-again Inv-loop μ-loop
 loop-again c = (search needs, occupied-more _ _ (c .before .before .before .loop .inv .1) (c .if1 .left))
 
--- src/lib.rt:77:1
 returns-2 : tie.Need-returns-2 Inv-loop μ-loop
 returns-2 c = occupied-all _ _ (c .before .loop .inv .1) (c .before .loop .inv .0) (c .loop-test .left)
 
@@ -65,7 +54,7 @@ any-occupied-spec =
     add-if1
     shared-slice-read-if1
     returns
-    add-i
+    add-k
     loop-less
     loop-again
     returns-2)

@@ -3,34 +3,28 @@ use Rattle.judging.specs.Device.{device-junk, device-open, device-closed
 use borrow.Author.Needs.{needs}
 use Rattle.judging.proofs.device_impossible.Statement.{statement}
 use Rattle.judging.proofs.device_impossible.Tie as tie
-use Rattle.judging.proofs.device_impossible.Reads as reads
-use Rattle.judging.proofs.device_impossible.Lts as lts
-use Rattle.judging.proofs.any_occupied.Reads as any-occupied-reads
-use Rattle.judging.proofs.open_impossible.Reads as open-impossible-reads
 
--- src/lib.rt:106:12
 shared-slice-read-if1 : tie.Need-shared-slice-read-if1
 shared-slice-read-if1 c = search needs
 
--- src/lib.rt:107:9
 returns : tie.Need-returns
 returns c = device-junk _ _ (c .before .before .before .pre) (c .if1 .taken)
 
--- src/lib.rt:110:9
 open-impossible-requires : tie.Need-open-impossible-requires
 open-impossible-requires c κs = search needs
 
--- src/lib.rt:110:9
 returns-2 : tie.Need-returns-2
-returns-2 c = device-open (c .before .before .before .before .before .args .hca) _ (c .before .before .before .before .before .pre) _ (c .before .before .if1 .left) (c .before .if2 .taken) (c .open-impossible .ensures)
+returns-2 c =
+    device-open (c .before .before .before .before .before .args .hca) _ (c .before .before .before .before .before .pre) _
+    (c .before .before .if1 .left) (c .before .if2 .taken) (c .open-impossible .ensures)
 
--- src/lib.rt:112:5
 any-occupied-requires : tie.Need-any-occupied-requires
 any-occupied-requires c κs = search needs
 
--- src/lib.rt:102:1
 returns-3 : tie.Need-returns-3
-returns-3 c = device-closed (c .before .before .before .before .before .args .hca) _ (c .before .before .before .before .before .pre) _ (c .before .before .if1 .left) (c .before .if2 .left) (c .any-occupied .ensures)
+returns-3 c =
+    device-closed (c .before .before .before .before .before .args .hca) _ (c .before .before .before .before .before .pre) _
+    (c .before .before .if1 .left) (c .before .if2 .left) (c .any-occupied .ensures)
 
 pub device-impossible-spec : {M : Type 1} → statement M
 device-impossible-spec =

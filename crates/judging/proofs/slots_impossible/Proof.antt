@@ -1,27 +1,22 @@
 -- `judging::slots_impossible` meets its contract.
 use mathlib.Core.Path.{_≡_, refl}
 use mathlib.Core.Bool.{false}
+use mathlib.Core.Logic.{⊎-elim}
 use borrow.Author.Needs.{needs}
 use Prim.Native.Nat.{ℕ, _≤_, _<_, _-_}
 use native.Mathlib.Omega.{arith}
 use lib.ListN.{getD}
 use Rattle.hold_codes.specs.Codes.{noHold, holdsMeet}
-use Rattle.judging.specs.Scan.{Passed, passed-none, passed-free, passed-all, stop-told, clash-told, more-told, clear-told}
+use Rattle.judging.specs.Scan.{Passed, passed-none, passed-free, passed-all, seen-more, seen-same}
+use Rattle.judging.specs.Scan.{wrong-told, second-told, clash-told, more-told, clear-told}
 use Rattle.judging.proofs.slots_impossible.Statement.{statement}
 use Rattle.judging.proofs.slots_impossible.Tie as tie
-use Rattle.judging.proofs.slots_impossible.Reads as reads
-use Rattle.judging.proofs.slots_impossible.Lts as lts
-use Rattle.hold_codes.proofs.clash.Reads as clash-reads
-use Rattle.hold_codes.proofs.nothing.Reads as nothing-reads
-use Rattle.judging.proofs.either_one.Reads as either-one-reads
-use Rattle.judging.proofs.judge_at.Reads as judge-at-reads
-use Rattle.judging.proofs.stops.Reads as stops-reads
 
 abbrev Inv-loop2 : tie.InvT-loop2
-Inv-loop2 logs dev holds seen i judged hold j₀ j = (j ≤ i) × ((m : ℕ) → m < j → holdsMeet hold (getD holds m noHold) ≡ false)
+Inv-loop2 logs dev holds seen i hold j₀ j = (j ≤ i) × ((m : ℕ) → m < j → holdsMeet hold (getD holds m noHold) ≡ false)
 
 abbrev μ-loop2 : tie.MeasureT-loop2
-μ-loop2 logs dev holds seen i judged hold j₀ j = i - j
+μ-loop2 logs dev holds seen i hold j₀ j = i - j
 
 abbrev Inv-loop : tie.InvT-loop
 Inv-loop logs dev holds₀ seen₀ i₀ holds seen i = (i ≤ 8) × Passed logs dev i holds seen
@@ -29,109 +24,104 @@ Inv-loop logs dev holds₀ seen₀ i₀ holds seen i = (i ≤ 8) × Passed logs 
 abbrev μ-loop : tie.MeasureT-loop
 μ-loop logs dev holds₀ seen₀ i₀ holds seen i = 8 - i
 
--- src/lib.rt:53:9
 nothing-requires : tie.Need-nothing-requires Inv-loop2 μ-loop2 Inv-loop μ-loop
 nothing-requires c κs = search needs
 
--- src/lib.rt:56:5
 loop-holds : tie.Need-loop-holds Inv-loop2 μ-loop2 Inv-loop μ-loop
 loop-holds c = (search needs, passed-none _ _ _ _ (c .nothing .ensures) refl)
 
--- src/lib.rt:57:21
 mul-if1 : tie.Need-mul-if1 Inv-loop2 μ-loop2 Inv-loop μ-loop
 mul-if1 c = search needs
 
--- src/lib.rt:57:16
 add-if1 : tie.Need-add-if1 Inv-loop2 μ-loop2 Inv-loop μ-loop
 add-if1 c = search needs
 
--- src/lib.rt:57:12
 shared-slice-read-if1 : tie.Need-shared-slice-read-if1 Inv-loop2 μ-loop2 Inv-loop μ-loop
 shared-slice-read-if1 c = search needs
 
--- src/lib.rt:58:13
 add-i : tie.Need-add-i Inv-loop2 μ-loop2 Inv-loop μ-loop
 add-i c = search needs
 
--- src/lib.rt:56:5
 loop-less : tie.Need-loop-less Inv-loop2 μ-loop2 Inv-loop μ-loop
 loop-less c = search needs
 
--- src/lib.rt:56:5
 loop-again : tie.Need-loop-again Inv-loop2 μ-loop2 Inv-loop μ-loop
 loop-again c = (search needs, passed-free _ _ _ _ _ (c .before .before .before .loop .inv .1) (c .if1 .taken))
 
--- src/lib.rt:60:13
 judge-at-requires : tie.Need-judge-at-requires Inv-loop2 μ-loop2 Inv-loop μ-loop
 judge-at-requires c κs = search needs
 
--- src/lib.rt:61:12
-stops-requires : tie.Need-stops-requires Inv-loop2 μ-loop2 Inv-loop μ-loop
-stops-requires c κs = search needs
-
--- src/lib.rt:62:13
 returns : tie.Need-returns Inv-loop2 μ-loop2 Inv-loop μ-loop
-returns c = stop-told _ _ _ _ _ _ (c .before .before .before .before .before .loop-test .taken) (c .before .before .before .before .before .before .loop .inv .1) (c .before .before .before .if1 .left) (c .before .before .judge-at .ensures) _ (c .before .stops .ensures) (c .if2 .taken)
+returns c =
+    wrong-told _ _ _ _ _ _ (c .before .before .before .before .loop-test .taken) (c .before .before .before .before .before .loop .inv .1)
+    (c .before .before .if1 .left) (c .before .judge-at .ensures) (c .if2 .taken)
 
--- src/lib.rt:65:9
+returns-2 : tie.Need-returns-2 Inv-loop2 μ-loop2 Inv-loop μ-loop
+returns-2 c =
+    second-told _ _ _ _ _ _ (c .before .before .before .before .before .before .loop-test .taken)
+    (c .before .before .before .before .before .before .before .loop .inv .1) (c .before .before .before .before .if1 .left)
+    (c .before .before .before .judge-at .ensures) (c .before .before .if2 .left) (c .before .if3 .taken) (c .if4 .taken)
+
 loop2-holds : tie.Need-loop2-holds Inv-loop2 μ-loop2 Inv-loop μ-loop
 loop2-holds c = (search needs, λ m h. absurd (omega arith))
 
--- src/lib.rt:66:40
 mul-clash : tie.Need-mul-clash Inv-loop2 μ-loop2 Inv-loop μ-loop
 mul-clash c = search needs
 
--- src/lib.rt:66:40
 array-copy-out-clash : tie.Need-array-copy-out-clash Inv-loop2 μ-loop2 Inv-loop μ-loop
 array-copy-out-clash c = search needs
 
--- src/lib.rt:66:16
 clash-requires : tie.Need-clash-requires Inv-loop2 μ-loop2 Inv-loop μ-loop
 clash-requires c κs = search needs
 
--- src/lib.rt:67:17
-returns-2 : tie.Need-returns-2 Inv-loop2 μ-loop2 Inv-loop μ-loop
-returns-2 c = clash-told _ _ _ _ _ _ (c .before .before .before .before .before .before .before .before .before .before .before .loop-test .taken) (c .before .before .before .before .before .before .before .before .before .before .before .before .loop .inv .1) (c .before .before .before .before .before .before .before .before .before .if1 .left) (c .before .before .before .before .before .before .before .before .judge-at .ensures) _ (c .before .before .before .before .before .before .before .stops .ensures) (c .before .before .before .before .before .before .if2 .left) _ _ (c .before .before .before .loop2-test .taken) (c .before .clash .ensures) (c .if3 .taken)
+returns-3 : tie.Need-returns-3 Inv-loop2 μ-loop2 Inv-loop μ-loop
+returns-3 c =
+    clash-told _ _ _ _ _ _ (c .before .before .before .before .before .before .before .before .before .before .before .loop-test .taken)
+    (c .before .before .before .before .before .before .before .before .before .before .before .before .loop .inv .1)
+    (c .before .before .before .before .before .before .before .before .before .if1 .left)
+    (c .before .before .before .before .before .before .before .before .judge-at .ensures)
+    (c .before .before .before .before .before .before .before .if2 .left) _ _ (c .before .before .before .loop2-test .taken)
+    (c .before .clash .ensures) (c .if5 .taken)
 
--- src/lib.rt:65:13
 add-j : tie.Need-add-j Inv-loop2 μ-loop2 Inv-loop μ-loop
 add-j c = search needs
 
--- src/lib.rt:65:9
 loop2-less : tie.Need-loop2-less Inv-loop2 μ-loop2 Inv-loop μ-loop
 loop2-less c = search needs
 
--- src/lib.rt:65:9
 loop2-again : tie.Need-loop2-again Inv-loop2 μ-loop2 Inv-loop μ-loop
-loop2-again c = (search needs, clear-told _ (c .before .before .before .before .before .before .before .before .before .before .before .before .loop .holds) _ _ (c .before .before .before .before .loop2 .inv .1) (c .before .clash .ensures) (c .if3 .left))
+loop2-again c = (
+  search needs,
+  clear-told _
+      (c .before .before .before .before .before .before .before .before .before .before .before .before .loop .holds) _ _
+      (c .before .before .before .before .loop2 .inv .1) (c .before .clash .ensures) (c .if5 .left),
+)
 
--- src/lib.rt:70:9
-either-one-requires : tie.Need-either-one-requires Inv-loop2 μ-loop2 Inv-loop μ-loop
-either-one-requires c κs = search needs
-
--- src/lib.rt:71:9
 mul-holds : tie.Need-mul-holds Inv-loop2 μ-loop2 Inv-loop μ-loop
 mul-holds c = search needs
 
--- src/lib.rt:71:9
 array-set-from-holds : tie.Need-array-set-from-holds Inv-loop2 μ-loop2 Inv-loop μ-loop
 array-set-from-holds c = search needs
 
--- src/lib.rt:56:9
 add-i-2 : tie.Need-add-i-2 Inv-loop2 μ-loop2 Inv-loop μ-loop
 add-i-2 c = search needs
 
--- src/lib.rt:56:5
 loop-less-2 : tie.Need-loop-less-2 Inv-loop2 μ-loop2 Inv-loop μ-loop
 loop-less-2 c = search needs
 
--- src/lib.rt:56:5
 loop-again-2 : tie.Need-loop-again-2 Inv-loop2 μ-loop2 Inv-loop μ-loop
-loop-again-2 c = (search needs, more-told _ _ _ _ _ _ (c .before .before .before .before .before .before .before .before .before .loop-test .taken) (c .before .before .before .before .before .before .before .before .before .before .loop .inv .1) (c .before .before .before .before .before .before .before .if1 .left) (c .before .before .before .before .before .before .judge-at .ensures) _ (c .before .before .before .before .before .stops .ensures) (c .before .before .before .before .if2 .left) _ _ (c .before .before .loop2 .inv .1) (c .before .loop2-test .left) (c .either-one .ensures))
+loop-again-2 c = (
+  search needs,
+  more-told _ _ _ _ _ _ (c .before .before .before .before .before .before .before .before .loop-test .taken)
+      (c .before .before .before .before .before .before .before .before .before .loop .inv .1)
+      (c .before .before .before .before .before .before .if1 .left) (c .before .before .before .before .before .judge-at .ensures)
+      (c .before .before .before .before .if2 .left) _ _
+      (⊎-elim (λ w. seen-more _ _ _ (w .0 .taken) (w .1 .left) (w .2)) (λ w. seen-same _ _ _ (w .0 .left) (w .1))
+      (c .before .before .before .if3 .came)) (c .before .loop2 .inv .1) (c .loop2-test .left),
+)
 
--- src/lib.rt:49:1
-returns-3 : tie.Need-returns-3 Inv-loop2 μ-loop2 Inv-loop μ-loop
-returns-3 c = passed-all _ _ _ _ _ (c .before .loop .inv .1) (c .before .loop .inv .0) (c .loop-test .left)
+returns-4 : tie.Need-returns-4 Inv-loop2 μ-loop2 Inv-loop μ-loop
+returns-4 c = passed-all _ _ _ _ _ (c .before .loop .inv .1) (c .before .loop .inv .0) (c .loop-test .left)
 
 pub slots-impossible-spec : {M : Type 1} → statement M
 slots-impossible-spec =
@@ -150,20 +140,19 @@ slots-impossible-spec =
     loop-less
     loop-again
     judge-at-requires
-    stops-requires
     returns
+    returns-2
     loop2-holds
     mul-clash
     array-copy-out-clash
     clash-requires
-    returns-2
+    returns-3
     add-j
     loop2-less
     loop2-again
-    either-one-requires
     mul-holds
     array-set-from-holds
     add-i-2
     loop-less-2
     loop-again-2
-    returns-3)
+    returns-4)

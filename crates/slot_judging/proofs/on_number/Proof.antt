@@ -1,97 +1,76 @@
+-- `slot_judging::on_number` meets its contract.
 use mathlib.Core.Bool.{false}
 use Rattle.slot_judging.specs.Requests.{one-told}
 use borrow.Author.Needs.{needs}
 use Rattle.slot_judging.proofs.on_number.Statement.{statement}
 use Rattle.slot_judging.proofs.on_number.Tie as tie
-use Rattle.slot_judging.proofs.on_number.Reads as reads
-use Rattle.slot_judging.proofs.on_number.Lts as lts
-use Rattle.slot_judging.proofs.by_status.Reads as by-status-reads
-use Rattle.slot_judging.proofs.coded.Reads as coded-reads
-use Rattle.slot_judging.proofs.joined.Reads as joined-reads
-use Rattle.slot_judging.proofs.one.Reads as one-reads
-use Rattle.slot_judging.proofs.write.Reads as write-reads
 
--- src/lib.rt:198:73
 enum-told : tie.Need-enum-told
 enum-told c = search needs
 
--- src/lib.rt:198:73
 coded-requires : tie.Need-coded-requires
 coded-requires c κs = search needs
 
--- src/lib.rt:198:69
 one-requires : tie.Need-one-requires
 one-requires c κs = search needs
 
--- src/lib.rt:198:36
 by-status-requires : tie.Need-by-status-requires
 by-status-requires c κs = search needs
 
--- src/lib.rt:199:72
 enum-told-2 : tie.Need-enum-told-2
 enum-told-2 c = search needs
 
--- src/lib.rt:199:72
 coded-requires-2 : tie.Need-coded-requires-2
 coded-requires-2 c κs = search needs
 
--- src/lib.rt:199:68
 one-requires-2 : tie.Need-one-requires-2
 one-requires-2 c κs = search needs
 
--- src/lib.rt:199:35
 by-status-requires-2 : tie.Need-by-status-requires-2
 by-status-requires-2 c κs = search needs
 
--- src/lib.rt:200:72
 enum-told-3 : tie.Need-enum-told-3
 enum-told-3 c = search needs
 
--- src/lib.rt:200:72
 coded-requires-3 : tie.Need-coded-requires-3
 coded-requires-3 c κs = search needs
 
--- src/lib.rt:200:68
 one-requires-3 : tie.Need-one-requires-3
 one-requires-3 c κs = search needs
 
--- src/lib.rt:200:34
 by-status-requires-3 : tie.Need-by-status-requires-3
 by-status-requires-3 c κs = search needs
 
--- src/lib.rt:201:35
 enum-told-4 : tie.Need-enum-told-4
 enum-told-4 c = search needs
 
--- src/lib.rt:201:35
 write-requires : tie.Need-write-requires
 write-requires c κs = search needs
 
--- src/lib.rt:202:37
 enum-told-5 : tie.Need-enum-told-5
 enum-told-5 c = search needs
 
--- src/lib.rt:202:37
 joined-requires : tie.Need-joined-requires
 joined-requires c κs = search needs
 
--- src/lib.rt:193:1
 returns : tie.Need-returns
-returns c = rw (c .before .before .before .enum-told .given .1) (one-told _ _ _ _ _ _ _ false _ _ (c .before .before .coded .ensures) (c .before .one .ensures) (c .by-status .ensures))
+returns c =
+    rw (c .before .before .before .enum-told .given .1)
+    (one-told _ _ _ _ _ _ _ false _ _ (c .before .before .coded .ensures) (c .before .one .ensures) (c .by-status .ensures))
 
--- src/lib.rt:193:1
 returns-2 : tie.Need-returns-2
-returns-2 c = rw (c .before .before .before .enum-told2 .given .1) (one-told _ _ _ _ _ _ _ false _ _ (c .before .before .coded2 .ensures) (c .before .one2 .ensures) (c .by-status2 .ensures))
+returns-2 c =
+    rw (c .before .before .before .enum-told2 .given .1)
+    (one-told _ _ _ _ _ _ _ false _ _ (c .before .before .coded2 .ensures) (c .before .one2 .ensures) (c .by-status2 .ensures))
 
--- src/lib.rt:193:1
 returns-3 : tie.Need-returns-3
-returns-3 c = rw (c .before .before .before .enum-told3 .given .1) (one-told _ _ _ _ _ _ _ false _ _ (c .before .before .coded3 .ensures) (c .before .one3 .ensures) (c .by-status3 .ensures))
+returns-3 c =
+    rw (c .before .before .before .enum-told3 .given .1)
+    (one-told _ _ _ _ _ _ _ false _ _ (c .before .before .coded3 .ensures) (c .before .one3 .ensures) (c .by-status3 .ensures))
 
--- src/lib.rt:193:1
 returns-4 : tie.Need-returns-4
 returns-4 c = rw (c .before .enum-told4 .given .1) (c .write .ensures)
 
--- src/lib.rt:193:1
 returns-5 : tie.Need-returns-5
 returns-5 c = rw (c .before .enum-told5 .given .1) (c .joined .ensures)
 

@@ -1,3 +1,4 @@
+-- `slot_judging::on_record` meets its contract.
 use Rattle.slot_judging.specs.Judging.{recordJudged}
 use Rattle.slot_judging.specs.Requests.{one-told}
 use Rattle.words.specs.Choice.{cases}
@@ -5,52 +6,38 @@ use borrow.Author.Tests.{not-true, not-false}
 use borrow.Author.Needs.{needs}
 use Rattle.slot_judging.proofs.on_record.Statement.{statement}
 use Rattle.slot_judging.proofs.on_record.Tie as tie
-use Rattle.slot_judging.proofs.on_record.Reads as reads
-use Rattle.slot_judging.proofs.on_record.Lts as lts
-use Rattle.record_kinds.proofs.below_count.Reads as below-count-reads
-use Rattle.slot_judging.proofs.by_status.Reads as by-status-reads
-use Rattle.slot_judging.proofs.coded.Reads as coded-reads
-use Rattle.slot_judging.proofs.one.Reads as one-reads
-use Rattle.slot_judging.proofs.wrong.Reads as wrong-reads
 
--- src/lib.rt:110:9
 wrong-requires : tie.Need-wrong-requires
 wrong-requires c κs = search needs
 
--- src/lib.rt:110:9
 returns : tie.Need-returns
 unfolding recordJudged
 returns c = search cases
 
--- src/lib.rt:112:9
 below-count-requires : tie.Need-below-count-requires
 below-count-requires c κs = search needs
 
--- src/lib.rt:113:9
 wrong-requires-2 : tie.Need-wrong-requires-2
 wrong-requires-2 c κs = search needs
 
--- src/lib.rt:113:9
 returns-2 : tie.Need-returns-2
 unfolding recordJudged
 returns-2 c = search (cases, not-true)
 
--- src/lib.rt:115:45
 coded-requires : tie.Need-coded-requires
 coded-requires c κs = search needs
 
--- src/lib.rt:115:41
 one-requires : tie.Need-one-requires
 one-requires c κs = search needs
 
--- src/lib.rt:115:5
 by-status-requires : tie.Need-by-status-requires
 by-status-requires c κs = search needs
 
--- src/lib.rt:105:1
 returns-3 : tie.Need-returns-3
 unfolding recordJudged
-returns-3 c = let e = one-told _ _ _ _ _ _ _ (c .before .before .before .before .before .before .args .writes) _ _ (c .before .before .coded .ensures) (c .before .one .ensures) (c .by-status .ensures) in search (cases, not-false)
+returns-3 c =
+    let e = one-told _ _ _ _ _ _ _ (c .before .before .before .before .before .before .args .writes) _ _
+    (c .before .before .coded .ensures) (c .before .one .ensures) (c .by-status .ensures) in search (cases, not-false)
 
 pub on-record-spec : {M : Type 1} → statement M
 on-record-spec =

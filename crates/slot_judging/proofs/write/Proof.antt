@@ -1,60 +1,51 @@
+-- `slot_judging::write` meets its contract.
 use mathlib.Core.Bool.{true}
 use Rattle.slot_judging.specs.Requests.{one-told, psn-told, state-told, write-told}
 use borrow.Author.Needs.{needs}
 use Rattle.slot_judging.proofs.write.Statement.{statement}
 use Rattle.slot_judging.proofs.write.Tie as tie
-use Rattle.slot_judging.proofs.write.Reads as reads
-use Rattle.slot_judging.proofs.write.Lts as lts
-use Rattle.requests.proofs.psn_fits.Reads as psn-fits-reads
-use Rattle.slot_judging.proofs.by_status.Reads as by-status-reads
-use Rattle.slot_judging.proofs.coded.Reads as coded-reads
-use Rattle.slot_judging.proofs.one.Reads as one-reads
-use Rattle.slot_judging.proofs.wrong.Reads as wrong-reads
-use Rattle.words.proofs.read_le32.Reads as read-le32-reads
 
--- src/lib.rt:184:28
 read-le32-requires : tie.Need-read-le32-requires
 read-le32-requires c κs = search needs
 
--- src/lib.rt:184:9
 psn-fits-requires : tie.Need-psn-fits-requires
 psn-fits-requires c κs = search needs
 
--- src/lib.rt:185:9
 wrong-requires : tie.Need-wrong-requires
 wrong-requires c κs = search needs
 
--- src/lib.rt:185:9
 returns : tie.Need-returns
-returns c = psn-told _ _ _ _ _ _ _ _ (c .before .before .before .read-le32 .ensures) (c .before .before .psn-fits .ensures) (c .before .if1 .taken) (c .wrong .ensures)
+returns c =
+    psn-told _ _ _ _ _ _ _ _ (c .before .before .before .read-le32 .ensures) (c .before .before .psn-fits .ensures)
+    (c .before .if1 .taken) (c .wrong .ensures)
 
--- src/lib.rt:187:12
 shared-slice-read-if2 : tie.Need-shared-slice-read-if2
 shared-slice-read-if2 c = search needs
 
--- src/lib.rt:188:9
 wrong-requires-2 : tie.Need-wrong-requires-2
 wrong-requires-2 c κs = search needs
 
--- src/lib.rt:188:9
 returns-2 : tie.Need-returns-2
-returns-2 c = state-told _ _ _ _ _ _ _ _ (c .before .before .before .before .before .read-le32 .ensures) (c .before .before .before .before .psn-fits .ensures) (c .before .before .before .if1 .left) (c .before .if2 .taken) (c .wrong2 .ensures)
+returns-2 c =
+    state-told _ _ _ _ _ _ _ _ (c .before .before .before .before .before .read-le32 .ensures)
+    (c .before .before .before .before .psn-fits .ensures) (c .before .before .before .if1 .left) (c .before .if2 .taken)
+    (c .wrong2 .ensures)
 
--- src/lib.rt:190:42
 coded-requires : tie.Need-coded-requires
 coded-requires c κs = search needs
 
--- src/lib.rt:190:38
 one-requires : tie.Need-one-requires
 one-requires c κs = search needs
 
--- src/lib.rt:190:5
 by-status-requires : tie.Need-by-status-requires
 by-status-requires c κs = search needs
 
--- src/lib.rt:180:1
 returns-3 : tie.Need-returns-3
-returns-3 c = write-told _ _ _ _ _ _ _ _ (c .before .before .before .before .before .before .before .read-le32 .ensures) (c .before .before .before .before .before .before .psn-fits .ensures) (c .before .before .before .before .before .if1 .left) (c .before .before .before .if2 .left) (one-told _ _ _ _ _ _ _ true _ _ (c .before .before .coded .ensures) (c .before .one .ensures) (c .by-status .ensures))
+returns-3 c =
+    write-told _ _ _ _ _ _ _ _ (c .before .before .before .before .before .before .before .read-le32 .ensures)
+    (c .before .before .before .before .before .before .psn-fits .ensures) (c .before .before .before .before .before .if1 .left)
+    (c .before .before .before .if2 .left)
+    (one-told _ _ _ _ _ _ _ true _ _ (c .before .before .coded .ensures) (c .before .one .ensures) (c .by-status .ensures))
 
 pub write-spec : {M : Type 1} → statement M
 write-spec =
