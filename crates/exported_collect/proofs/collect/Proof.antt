@@ -22,7 +22,8 @@ returns-2 c = left-past _ _ _ _ _ _ (c .before .before .refusal .ensures) (c .be
 
 collect-slot-requires : tie.Need-collect-slot-requires
 collect-slot-requires c κs =
-    ready _ _ _ _ _ (c .before .before .before .before .refusal .ensures) (c .before .before .before .if1 .left) (omega (arith, c .before .before .if2 .left))
+    ready _ _ _ _ _ (c .before .before .before .before .refusal .ensures) (c .before .before .before .if1 .left)
+    (omega (arith, c .before .before .if2 .left))
 
 same-length-3 : tie.Need-same-length-3
 same-length-3 c = search needs

@@ -24,9 +24,9 @@ same-length c = search needs
 
 returns : tie.Need-returns
 returns c store =
-    let known = c .before .before .before .before .before .before .before .before .before .before .pre in
-    let done = c .before .before .before .status .given .1 in
-    short-left known (c .before .before .before .before .before .slot-at .ensures) store _ done _ (c .before .answer-size .ensures) (c .if1 .taken)
+    let found = c .before .before .before .before .before in
+    short-left (found .before .before .before .before .before .pre) (found .slot-at .ensures) store _
+    (c .before .before .before .status .given .1) _ (c .before .answer-size .ensures) (c .if1 .taken)
 
 write-answer-requires : tie.Need-write-answer-requires
 write-answer-requires c κs = search needs
@@ -49,13 +49,17 @@ same-length-2 : tie.Need-same-length-2
 same-length-2 c = search needs
 
 returns-2 : tie.Need-returns-2
-returns-2 c store = free-left (c .before .before .before .before .before .before .before .pre) (c .before .before .slot-at .ensures) store _ (c .enum-told .given .1)
+returns-2 c store =
+    let found = c .before .before in
+    free-left (found .before .before .before .before .before .pre) (found .slot-at .ensures) store _ (c .enum-told .given .1)
 
 same-length-3 : tie.Need-same-length-3
 same-length-3 c = search needs
 
 returns-3 : tie.Need-returns-3
-returns-3 c store = running-left (c .before .before .before .before .before .before .before .pre) (c .before .before .slot-at .ensures) store _ (c .enum-told2 .given .1)
+returns-3 c store =
+    let found = c .before .before in
+    running-left (found .before .before .before .before .before .pre) (found .slot-at .ensures) store _ (c .enum-told2 .given .1)
 
 same-length-4 : tie.Need-same-length-4
 same-length-4 c = search needs
@@ -68,8 +72,8 @@ returns-4 c store =
     let written = c .before .before .before .before .before .before .before .before in
     let sized = written .before .before .before in
     let found = sized .before .before .before .before in
-    collected-left (found .before .before .before .before .before .pre) (found .slot-at .ensures) store _ (sized .before .before .status .given .1) _
-    (sized .answer-size .ensures) (written .before .before .if1 .left) _ (written .write-answer .ensures)
+    collected-left (found .before .before .before .before .before .pre) (found .slot-at .ensures) store _
+    (sized .before .before .status .given .1) _ (sized .answer-size .ensures) (written .before .before .if1 .left) _ (written .write-answer .ensures)
     _ (c .before .before .before .before .free .ensures) _ (c .before .before .before .write-slot .ensures) _ (c .narrow .ensures .0)
 
 pub collect-slot-spec : {M : Type 1} → statement M
