@@ -1,49 +1,41 @@
+-- `exported_command::submit_tested` meets its contract.
+use Rattle.exported_command.specs.Decided.{opened-fits, can-apply, left-decided}
 use borrow.Author.Needs.{needs}
 use Rattle.exported_command.proofs.submit_tested.Statement.{statement}
 use Rattle.exported_command.proofs.submit_tested.Tie as tie
-use Rattle.exported_command.proofs.submit_tested.Reads as reads
-use Rattle.exported_command.proofs.submit_tested.Lts as lts
-use Rattle.deciding_commands.proofs.decide_register.Reads as decide-register-reads
-use Rattle.device_readers.proofs.read_hca.Reads as read-hca-reads
-use Rattle.device_readers.proofs.read_row.Reads as read-row-reads
-use Rattle.exported_apply.proofs.apply.Reads as apply-reads
-use Rattle.hcr_reader.proofs.read.Reads as read-reads
 
--- src/lib.rt:25:9
 read-hca-requires : tie.Need-read-hca-requires
 read-hca-requires c κs = search needs
 
--- src/lib.rt:28:9
 read-row-requires : tie.Need-read-row-requires
 read-row-requires c κs = search needs
 
--- src/lib.rt:31:9
 read-requires : tie.Need-read-requires
 read-requires c κs = search needs
 
--- src/lib.rt:26:9
 decide-register-requires : tie.Need-decide-register-requires
-decide-register-requires c κs = ?
+decide-register-requires c κs = opened-fits _ _ _ (c .before .before .before .before .before .before .before .before .before .before .before .pre .0) _ (c .before .before .before .before .read-hca .ensures)
 
--- src/lib.rt:33:5
 apply-requires : tie.Need-apply-requires
-apply-requires c κs = ?
+apply-requires c κs =
+    let a = c .before .before .before in
+    can-apply _ _ _ (c .before .before .before .before .before .before .before .before .before .before .before .before .before .before .before .pre .0) _ (a .before .before .before .before .before .read-hca .ensures) _ _ _ _ _
+    (a .before .before .before .read-row .ensures) (a .before .read .ensures .0) (a .decide-register .ensures) (c .before .before .before .before .before .before .before .before .before .before .before .before .before .before .before .pre .1)
 
--- src/lib.rt:12:1
 same-length : tie.Need-same-length
 same-length c = search needs
 
--- src/lib.rt:12:1
 same-length-2 : tie.Need-same-length-2
 same-length-2 c = search needs
 
--- src/lib.rt:12:1
 same-length-3 : tie.Need-same-length-3
 same-length-3 c = search needs
 
--- src/lib.rt:12:1
 returns : tie.Need-returns
-returns c = ?
+returns c =
+    let a = c .before .before .before .before .before .before .before .before .before .before in
+    left-decided _ _ _ (c .before .before .before .before .before .before .before .before .before .before .before .before .before .before .before .before .before .before .before .before .before .before .pre .0) _ (a .before .before .before .before .before .read-hca .ensures) _ _ _ _ _
+    (a .before .before .before .read-row .ensures) (a .before .read .ensures .0) (a .decide-register .ensures) _ (c .before .before .before .before .before .before .apply .ensures)
 
 pub submit-tested-spec : {M : Type 1} → statement M
 submit-tested-spec =
