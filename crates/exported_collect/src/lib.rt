@@ -36,7 +36,8 @@ fn collect_slot(dev: &mut [u8], room: &[u8], k: usize, out: &mut [u8]) -> u32
                 return 0x83;
             }
             answering::write_answer(room, k, request, out);
-            slot_writers::write_slot(dev, k, slot.free());
+            let freed = slot.free();
+            slot_writers::write_slot(dev, k, freed);
             256 * narrow(size)
         }
     }

@@ -13,8 +13,9 @@ pub fn reset(dev: &mut [u8], store: &[u8], room: &[u8]) -> u32
     if room.len() < ROOM {
         return 0x83;
     }
-    let hca = apply_parts::close_hca(device_readers::read_hca(dev));
-    device_writers::write_header(dev, hca);
+    let hca = device_readers::read_hca(dev);
+    let closed = apply_parts::close_hca(hca);
+    device_writers::write_header(dev, closed);
     words::fill(dev, 32, 256, 0);
     0
 }

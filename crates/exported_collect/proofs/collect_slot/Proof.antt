@@ -73,8 +73,9 @@ returns-4 c store =
     let sized = written .before .before .before in
     let found = sized .before .before .before .before in
     collected-left (found .before .before .before .before .before .pre) (found .slot-at .ensures) store _
-    (sized .before .before .status .given .1) _ (sized .answer-size .ensures) (written .before .before .if1 .left) _ (written .write-answer .ensures)
-    _ (c .before .before .before .before .free .ensures) _ (c .before .before .before .write-slot .ensures) _ (c .narrow .ensures .0)
+    (sized .before .before .status .given .1) _ (sized .answer-size .ensures) (written .before .before .if1 .left)
+    _ (written .write-answer .ensures) _ (c .before .before .before .before .before .free .ensures)
+    _ (c .before .before .before .write-slot .ensures) _ (c .narrow .ensures .0)
 
 pub collect-slot-spec : {M : Type 1} → statement M
 collect-slot-spec =
