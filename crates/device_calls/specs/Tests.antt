@@ -78,7 +78,7 @@ eight dev l = rw (eq-eqb (length dev) 288 l) (go (ltb 1 (getD dev 0 0)))
     go false = length-slots 8 dev
 
 -- and one of another length has none
-other-length : (dev store room : List ℕ) → ¬ (length dev ≡ 288) → badLent (worldOf dev store room) ≡ true
+pub other-length : (dev store room : List ℕ) → ¬ (length dev ≡ 288) → badLent (worldOf dev store room) ≡ true
 unfolding badLent badRow rowOf
 other-length dev store room n = rw (ne-eqb (length dev) 288 n)
 

@@ -90,5 +90,5 @@ module _ (h : Hca) (dev store room mail : List ℕ) (d : Decision) (ready : Read
       let s : Slot = slot (Running 0 q) in
       let below : k < 8 = placing ready q k is .below in
       let there : slotIn (set (rowOf dev) k s) k ≡ s =
-          getD-set-same (rowOf dev) k s (slot Free) (omega (arith, eight dev (ready .sized), below)) in
+      getD-set-same (rowOf dev) k s (slot Free) (omega (arith, eight dev (ready .sized), below)) in
       rw (is, e, f, g) (ap (λ (x : Slot). left (256 * (k + 1)) (putSlot k x dev) store (roomFilled k (part 0 (needOf q) mail) room)) (sym there))
