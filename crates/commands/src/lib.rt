@@ -84,7 +84,7 @@ pub fn read_op(code: u16) -> OpFound
     }
 }
 
-fn edge_modifier(edge: Edge) -> u8
+pub fn edge_modifier(edge: Edge) -> u8
     ensures { λ r. ⌜ r ≡ edgeModifier edge ⌝ }
 {
     match edge {

@@ -41,16 +41,18 @@ pub record OpenFits (h : Hca) (store : List ℕ) : Type 0 where
   pub ranges : h .«open» ≡ true → rangesHold (h .logs) ≡ true
   pub fits : h .«open» ≡ true → Fits (h .logs) (memory store)
 
--- as the first two tests answered
+-- of a world that passed the first two tests
+pub passing-fits : (h : Hca) (row : List Slot) (store room : List ℕ) → Passing (world h row store room) → OpenFits h store
+unfolding badState fitsStore
+passing-fits h row store room p = record {
+  ranges = λ o. both-left (rangesHold (h .logs)) _ (fits-store h row o (p .possible));
+  fits = λ o. open-fits (world h row store room) (p .lent) (p .possible) o;
+}
+
+-- as they answered
 pub tested-fits : (h : Hca) (row : List Slot) (store room : List ℕ) (a b : Bool) → length row ≡ slotCount
     → a ≡ lengthsWrong h (length store) (length room) → a ≡ false → b ≡ impossible h row → b ≡ false → OpenFits h store
-unfolding badState fitsStore
-tested-fits h row store room a b n e f i j =
-    let p : Passing (world h row store room) = passing h row store room a b n e f i j in
-    record {
-      ranges = λ o. both-left (rangesHold (h .logs)) _ (fits-store h row o (p .possible));
-      fits = λ o. open-fits (world h row store room) (p .lent) (p .possible) o;
-    }
+tested-fits h row store room a b n e f i j = passing-fits h row store room (passing h row store room a b n e f i j)
 
 -- a request on a record of an open state: the memory has that record
 pub open-stored : (h : Hca) (store : List ℕ) (q : Request) → OpenFits h store → h .«open» ≡ true → isRecord (h .logs) (recordOf q) ≡ true

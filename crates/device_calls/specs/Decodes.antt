@@ -82,10 +82,10 @@ module _ (dev : List ℕ) (l : length dev ≡ 288) (o : getD dev 0 0 ≤ 1) wher
   unfolding rowOf
   row-is = rw (eq-eqb (length dev) 288 l, le-ltb 1 (getD dev 0 0) o)
 
-  row-eight : length (rowOf dev) ≡ 8
+  pub row-eight : length (rowOf dev) ≡ 8
   row-eight = ap length row-is ∙ length-slots 8 dev
 
-  slot-is : (k : ℕ) → k < 8 → slotIn (rowOf dev) k ≡ slotAt k dev
+  pub slot-is : (k : ℕ) → k < 8 → slotIn (rowOf dev) k ≡ slotAt k dev
   slot-is k h = ap (λ (row : List Slot). slotIn row k) row-is ∙ getD-slots 8 dev k h (lit≤ tt)
 
 -- ---- a step

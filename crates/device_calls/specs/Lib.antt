@@ -3,3 +3,4 @@ pub mod Calls
 pub mod Accepted
 pub mod Decodes
 pub mod Stays
+pub mod Tests

@@ -1,9 +1,9 @@
 -- What the writers of a moved slot and of the header leave, in the definitions' terms.
-use mathlib.Core.Path.{_≡_, refl, _∙_, ap}
-use mathlib.Core.List.{List, [], _∷_}
+use mathlib.Core.Path.{_≡_, _∙_, ap}
+use mathlib.Core.List.{List}
 use Prim.Native.Nat.{ℕ, _+_, _*_, _/_, _%_, _^_, _<_}
 use native.Mathlib.Omega.{arith}
-use lib.ListN.{length, set, length-set}
+use lib.ListN.{length, replicate, set, length-set}
 use Rattle.words.specs.Parts.{splice}
 use Rattle.words.specs.Words.{leBytes}
 use Rattle.hcr.specs.Register.{bit}
@@ -22,9 +22,7 @@ unfolding putMoved
 moved-made k s a b dev e f = rw (e, f)
 
 pub header-made : (o : ℕ) (l : Logs) (low high : ℕ) (a b : List ℕ)
-    → a ≡ splice 8 (leBytes 4 low)
-    (o ∷ l .qps ∷ l .cqs ∷ l .eqs ∷ l .mpts ∷ 0 ∷ 0 ∷ 0 ∷ 0 ∷ 0 ∷ 0 ∷ 0 ∷ 0 ∷ 0 ∷ 0 ∷ 0 ∷ 0 ∷ 0 ∷ 0 ∷ 0 ∷ 0 ∷ 0 ∷ 0 ∷ 0
-    ∷ 0 ∷ 0 ∷ 0 ∷ 0 ∷ 0 ∷ 0 ∷ 0 ∷ 0 ∷ [])
+    → a ≡ splice 8 (leBytes 4 low) (set (set (set (set (set (replicate 32 0) 0 o) 1 (l .qps)) 2 (l .cqs)) 3 (l .eqs)) 4 (l .mpts))
     → b ≡ splice 12 (leBytes 4 high) a → b ≡ headerBytes o l low high
 unfolding headerBytes splice leBytes
 header-made o l low high a b p q = rw (q, p)

@@ -62,40 +62,12 @@ fn high_of(v: usize) -> u32
 fn header_bytes(opened: u8, logs: Logs, low: u32, high: u32) -> [u8; 32]
     ensures { λ r. ⌜ r ≡ headerBytes opened logs low high ⌝ }
 {
-    let mut h = [
-        opened,
-        logs.qps,
-        logs.cqs,
-        logs.eqs,
-        logs.mpts,
-        0,
-        0,
-        0,
-        0,
-        0,
-        0,
-        0,
-        0,
-        0,
-        0,
-        0,
-        0,
-        0,
-        0,
-        0,
-        0,
-        0,
-        0,
-        0,
-        0,
-        0,
-        0,
-        0,
-        0,
-        0,
-        0,
-        0,
-    ];
+    let mut h = [0; 32];
+    h[0] = opened;
+    h[1] = logs.qps;
+    h[2] = logs.cqs;
+    h[3] = logs.eqs;
+    h[4] = logs.mpts;
     words::write_le32(&mut h, 8, low);
     words::write_le32(&mut h, 12, high);
     h

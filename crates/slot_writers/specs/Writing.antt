@@ -1,13 +1,14 @@
 -- What the writers of a slot leave, in the definitions' terms.
-use mathlib.Core.Path.{_≡_, refl, _∙_, ap}
-use mathlib.Core.List.{List, [], _∷_}
+use mathlib.Core.Path.{_≡_, _∙_, ap}
+use mathlib.Core.List.{List}
 use Prim.Native.Nat.{ℕ, _+_, _*_, _<_}
 use lib.Dec.{lit<}
-use lib.ListN.{length}
+use lib.ListN.{replicate, set}
 use Rattle.words.specs.Parts.{splice}
 use Rattle.words.specs.Words.{leBytes}
 use Rattle.edges.specs.declared.Edge.{Edge}
-use Rattle.edges.specs.declared.Edge.the-variants.{ResetToInit, InitToInit, InitToRtr, RtrToRts, RtsToRts, SqeToRts, RtsToSqd, SqdToSqd, SqdToRts, ToErr, ToReset}
+use Rattle.edges.specs.declared.Edge.the-variants.{ResetToInit, InitToInit, InitToRtr, RtrToRts, RtsToRts, SqeToRts}
+use Rattle.edges.specs.declared.Edge.the-variants.{RtsToSqd, SqdToSqd, SqdToRts, ToErr, ToReset}
 use Rattle.requests.specs.declared.Owned.{Owned}
 use Rattle.requests.specs.declared.Owned.the-variants as owned
 use Rattle.requests.specs.declared.Command.{Command}
@@ -80,12 +81,10 @@ op-small c r e = rw e (command-byte c)
 pub number-small : (x : EngineRequest) (r : ℕ) → r ≡ engineNumber x → r < 256
 number-small x r e = rw e (engine-byte x)
 
--- ---- four words written into a slot's bytes
+-- ---- six bytes and four words written into 32 bytes of 0
 
 pub slot-bytes-made : (code kind m modifier op index cq eq psn state : ℕ) (a b c d : List ℕ)
-    → a ≡ splice 8 (leBytes 4 index)
-    (code ∷ kind ∷ m ∷ modifier ∷ op ∷ 0 ∷ 0 ∷ 0 ∷ 0 ∷ 0 ∷ 0 ∷ 0 ∷ 0 ∷ 0 ∷ 0 ∷ 0 ∷ 0 ∷ 0 ∷ 0 ∷ 0 ∷ 0 ∷ 0 ∷ 0 ∷ 0
-    ∷ state ∷ 0 ∷ 0 ∷ 0 ∷ 0 ∷ 0 ∷ 0 ∷ 0 ∷ [])
+    → a ≡ splice 8 (leBytes 4 index) (set (set (set (set (set (set (replicate 32 0) 0 code) 1 kind) 2 m) 3 modifier) 4 op) 24 state)
     → b ≡ splice 12 (leBytes 4 cq) a → c ≡ splice 16 (leBytes 4 eq) b → d ≡ splice 20 (leBytes 4 psn) c
     → d ≡ slotBytes code kind m modifier op index cq eq psn state
 unfolding slotBytes splice leBytes

@@ -119,40 +119,13 @@ fn slot_bytes(
 ) -> [u8; 32]
     ensures { λ r. ⌜ r ≡ slotBytes code kind moved modifier op index cq eq psn state ⌝ }
 {
-    let mut s = [
-        code,
-        kind,
-        moved,
-        modifier,
-        op,
-        0,
-        0,
-        0,
-        0,
-        0,
-        0,
-        0,
-        0,
-        0,
-        0,
-        0,
-        0,
-        0,
-        0,
-        0,
-        0,
-        0,
-        0,
-        0,
-        state,
-        0,
-        0,
-        0,
-        0,
-        0,
-        0,
-        0,
-    ];
+    let mut s = [0; 32];
+    s[0] = code;
+    s[1] = kind;
+    s[2] = moved;
+    s[3] = modifier;
+    s[4] = op;
+    s[24] = state;
     words::write_le32(&mut s, 8, index);
     words::write_le32(&mut s, 12, cq);
     words::write_le32(&mut s, 16, eq);

@@ -4,6 +4,24 @@ use borrow.Author.Needs.{needs}
 use Rattle.slot_writers.proofs.slot_bytes.Statement.{statement}
 use Rattle.slot_writers.proofs.slot_bytes.Tie as tie
 
+array-write-s : tie.Need-array-write-s
+array-write-s c = search needs
+
+array-write-s-2 : tie.Need-array-write-s-2
+array-write-s-2 c = search needs
+
+array-write-s-3 : tie.Need-array-write-s-3
+array-write-s-3 c = search needs
+
+array-write-s-4 : tie.Need-array-write-s-4
+array-write-s-4 c = search needs
+
+array-write-s-5 : tie.Need-array-write-s-5
+array-write-s-5 c = search needs
+
+array-write-s-6 : tie.Need-array-write-s-6
+array-write-s-6 c = search needs
+
 slice-aggregate-write-le32 : tie.Need-slice-aggregate-write-le32
 slice-aggregate-write-le32 c = search needs
 
@@ -35,6 +53,12 @@ pub slot-bytes-spec : {M : Type 1} → statement M
 slot-bytes-spec =
     tie.close
     (tie.spec
+    array-write-s
+    array-write-s-2
+    array-write-s-3
+    array-write-s-4
+    array-write-s-5
+    array-write-s-6
     slice-aggregate-write-le32
     write-le32-requires
     slice-aggregate-write-le32-2

@@ -1,0 +1,2 @@
+-- The submission of a command on bytes, as the code makes it.
+pub mod Decided

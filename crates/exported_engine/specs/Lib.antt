@@ -1,0 +1,2 @@
+-- The submission of an engine request on bytes, as the code makes it.
+pub mod Decided

@@ -1,0 +1,2 @@
+-- A reset on bytes, as the code makes it.
+pub mod Resets

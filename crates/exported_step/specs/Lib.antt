@@ -1,0 +1,2 @@
+-- A step on bytes, as the code makes it.
+pub mod Ready
