@@ -1,6 +1,6 @@
 # `make demo` shows the model at work on a sample script, without proving anything; `make replay` proves and builds the program that ran
-# it; `make test` runs all tests, the same as the gate; `make speed` says what a call of an operation costs; `make clients` runs the
-# programs in C and Rust that use the library; `make install` puts the library, its header and its pkg-config file under PREFIX.
+# it; `make test` runs all tests, the same as the gate; `make clients` runs the programs in C and Rust that use the library;
+# `make speed` measures the library against plain Rust; `make install` puts the library, its header and its pkg-config file under PREFIX.
 .PHONY: demo replay test speed clients install kit
 SHELL := bash
 PREFIX ?= /usr/local
@@ -18,9 +18,9 @@ replay: kit
 test: kit
 	@bash .ci/run
 
-speed: kit
-	@rt check speed
-	@tools/speed
+speed: $(LIBRARY)
+	@cd clients/rust && ECGSLOPE_LIB_DIR=$(abspath $(ECGSLOPE_LIB_DIR)) cargo run --release --offline --quiet --bin bench
+	@cd clients/rust && ECGSLOPE_LIB_DIR=$(abspath $(ECGSLOPE_LIB_DIR)) ./instructions
 
 clients: $(LIBRARY)
 	@tools/clients

@@ -8,7 +8,8 @@
  *   - the room: at least ECGSLOPE_ROOM_BYTES bytes, ECGSLOPE_SLOT_ROOM_BYTES for each slot.
  *
  *     static uint8_t device[ECGSLOPE_DEVICE_BYTES], store[2688], room[ECGSLOPE_ROOM_BYTES];
- *     struct ecgslope_lent lent = { device, sizeof device, store, sizeof store, room, sizeof room };
+ *     struct ecgslope_lent lent = { .device = device, .device_len = sizeof device, .store = store, .store_len = sizeof store,
+ *                                   .room = room, .room_len = sizeof room };
  *     uint32_t answer = ecgslope_lent_submit_command(&lent, hcr, 28, mailbox, mailbox_len);
  *     if (ecgslope_number(answer) == ECGSLOPE_OK && ecgslope_took_slot(answer)) {
  *         size_t slot = ecgslope_slot(answer);
@@ -33,7 +34,8 @@
  * the completion queue and the event queue of engine request 7; 20 to 23, the PSN; 24, the state of engine requests 3 to 5. Bytes
  * that no field uses are not looked at. A submission that takes a slot writes that slot's 32 bytes, one that takes none the
  * header's 32, each with 0 in the bytes that it does not use; a step writes its slot's status and bursts moved, and no other byte;
- * a collection makes its slot's 32 bytes 0; a reset writes the header as if closed and makes all other bytes 0.
+ * a collection makes its slot's 32 bytes 0; a reset writes the header with byte 0 cleared and makes the slots' bytes 0. CLOSE_HCA and
+ * reset leave the logarithms and the length in the header, and while closed they are not looked at.
  */
 #ifndef ECGSLOPE_H
 #define ECGSLOPE_H
@@ -132,8 +134,9 @@ uint32_t ecgslope_reset(uint8_t *device, size_t device_len, const uint8_t *store
 
 /*
  * The command register's fields, ECGSLOPE_FIELDS_BYTES bytes, little-endian: in_param 0 to 7, out_param 8 to 15, in_modifier 16 to
- * 19, token 20 to 21, op 22 to 23, op_modifier 24, event 25 (1 or 0), the rest 0. The reader refuses a register that is not well
- * formed, the writer an op above 0xfff or an event above 1, with ECGSLOPE_BAD_PARAMETER.
+ * 19, token 20 to 21, op 22 to 23, op_modifier 24, event 25 (1 or 0), the rest 0. Fewer than 28 bytes of register or 32 of fields get
+ * ECGSLOPE_BAD_LENGTH; of more only the front is touched. The reader refuses a register that is not well formed, the writer an op above
+ * 0xfff or an event above 1, with ECGSLOPE_BAD_PARAMETER; the writer does not look at bytes 26 to 31.
  */
 uint32_t ecgslope_read_register(const uint8_t *hcr, size_t hcr_len, uint8_t *fields, size_t fields_len);
 uint32_t ecgslope_write_register(uint8_t *hcr, size_t hcr_len, const uint8_t *fields, size_t fields_len);
