@@ -3,9 +3,9 @@
 // prints for each what the device answers and what the documents give. The number is the answer of
 // the example's last call.
 mod calls;
+mod checking;
 mod device;
 
-use calls::Call;
 use calls::Script;
 use calls::closed;
 use calls::collect;
@@ -16,10 +16,14 @@ use calls::ready;
 use calls::reset;
 use calls::step;
 use calls::write;
-use device::run;
+use checking::beside_read;
+use checking::check;
+use checking::check_slot;
+use checking::check_word;
+use checking::in_rtr;
+use checking::while_closed;
+use checking::while_open;
 use example_text::check_number;
-use example_text::print_end;
-use example_text::print_expected;
 use hcr::HcrCommand;
 use hcr::WriteAnswer;
 ghost use mathlib.Core.Path.{_≡_};
@@ -29,59 +33,6 @@ ghost use Rattle.hcr.specs.Register.{writeAnswerNumber};
 const RTR: u8 = 2;
 
 const RTS: u8 = 3;
-
-fn check(label: &[u8], script: Script, given: u64) {
-    check_number(label, run(script).number as u64, given);
-}
-
-// A call while closed, while open, and with queue pair 7 in RTR.
-fn while_closed(label: &[u8], last: Call, given: u64) {
-    check(label, closed().then(last), given);
-}
-
-fn while_open(label: &[u8], last: Call, given: u64) {
-    check(label, open().then(last), given);
-}
-
-fn in_rtr(label: &[u8], last: Call, given: u64) {
-    check(label, ready().then(last), given);
-}
-
-// A call after request 1 on queue pair 0, which runs in slot 0.
-fn beside_read(label: &[u8], last: Call, given: u64) {
-    check(label, open().then(read(1, 0)).then(last), given);
-}
-
-fn print_slot(slot: u64) {
-    io::write_all(1, b"accepted in slot ");
-    io::print_decimal(1, slot);
-}
-
-// A refused request has no slot of the eight.
-fn check_slot(label: &[u8], script: Script, given: u64) {
-    let slot = run(script).slot as u64;
-    io::write_all(1, label);
-    io::write_all(1, b": ");
-    print_slot(slot);
-    print_expected();
-    print_slot(given);
-    print_end(slot == given);
-}
-
-fn print_word(word: u32) {
-    io::write_all(1, b"0x");
-    io::print_hex(1, word as u64, 8);
-}
-
-fn check_word(label: &[u8], script: Script, given: u32) {
-    let word = run(script).word_84;
-    io::write_all(1, label);
-    io::write_all(1, b": ");
-    print_word(word);
-    print_expected();
-    print_word(given);
-    print_end(word == given);
-}
 
 fn indices() {
     while_open(b"request 1 on QP 7", read(1, 7), 0);
