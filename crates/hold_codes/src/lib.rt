@@ -1,6 +1,6 @@
 // What a running request holds, as numbers that are quick to compare (01, Bursts, slots and holds).
 ghost use mathlib.Core.Path.{_≡_};
-ghost use Rattle.hold_codes.specs.Codes.{noHold, hasCode, holdsMeet};
+ghost use Rattle.hold_codes.specs.Codes.{noHold, hasCode};
 
 // The codes of the records that a running request holds, and of the one that it writes. The code of a
 // record is 4 * number + kind + 1, so that 0 stands for none.
@@ -23,7 +23,8 @@ pub fn nothing() -> Hold
     }
 }
 
-fn has(hold: Hold, code: u64) -> bool
+// Whether the record of this code is held.
+pub fn has(hold: Hold, code: u64) -> bool
     ensures { λ r. ⌜ r ≡ hasCode hold code ⌝ }
 {
     if hold.first == code {
@@ -33,17 +34,4 @@ fn has(hold: Hold, code: u64) -> bool
         return true;
     }
     hold.third == code
-}
-
-// Whether one of the two writes a record that the other holds.
-pub fn clash(a: Hold, b: Hold) -> bool
-    ensures { λ r. ⌜ r ≡ holdsMeet a b ⌝ }
-{
-    if a.written != 0 {
-        return has(b, a.written);
-    }
-    if b.written != 0 {
-        return has(a, b.written);
-    }
-    false
 }

@@ -195,15 +195,16 @@ module _ (g : Logs) (dev : List ℕ) (k : ℕ) (holds : List Hold) (c : Bool) (j
         (passed-more g dev k h holds c p (sym is-wrong ∙ right) (ap (both c) (sym (is-command right)) ∙ n .lone)
         (λ m y. sym (meets m) ∙ a m (omega arith)))
 
-pub clear-told : (x : Hold) (holds : List Hold) (j : ℕ) (b : Bool) → ((m : ℕ) → m < j → holdsMeet x (getD holds m noHold) ≡ false)
-    → b ≡ holdsMeet x (getD holds j noHold) → b ≡ false → (m : ℕ) → m < j + 1 → holdsMeet x (getD holds m noHold) ≡ false
-clear-told x holds j b h e f m l = go (decLt m j)
+-- a test that fails of the first j numbers, and of the next
+pub clear-told : (f : ℕ → Bool) (j : ℕ) (b : Bool) → ((m : ℕ) → m < j → f m ≡ false) → b ≡ f j → b ≡ false → (m : ℕ) → m < j + 1
+    → f m ≡ false
+clear-told f j b h e i m l = go (decLt m j)
   where
-    go : Dec (m < j) → holdsMeet x (getD holds m noHold) ≡ false
+    go : Dec (m < j) → f m ≡ false
     go (yes y) = h m y
     go (no y) =
         let z : m ≡ j = omega arith in
-        ap (λ (i : ℕ). holdsMeet x (getD holds i noHold)) z ∙ sym e ∙ f
+        ap f z ∙ sym e ∙ i
 
 -- the bytes that are lent for slot k
 pub at-told : (g : Logs) (k : ℕ) (dev : List ℕ) (j : Judged)

@@ -22,13 +22,16 @@ fn judge_at(logs: Logs, dev: &[u8], k: usize) -> Judged
     slot_judging::judge(logs, &dev[at..end])
 }
 
-// Whether a slot of an open state is wrong by itself, or two do not go together: two commands, or holds that clash.
+// Whether a slot of an open state is wrong by itself, or two do not go together: two commands, or holds that clash. A reader clashes
+// with writers alone, so it is compared with the records that are written, a writer with all that is held.
 fn slots_impossible(logs: Logs, dev: &[u8]) -> bool
     requires { ⌜ length (now dev) ≡ 288 ⌝ }
     ensures { λ r. ⌜ r ≡ slotsImpossible logs (slotsOf 8 (now (dev .entry))) ⌝ }
 {
     let none = hold_codes::nothing();
     let mut holds = [none; 8];
+    let mut written = [0u64; 8];
+    let mut writers = 0;
     let mut seen = false;
     for i in 0..8 {
         if dev[32 + i * 32] == 0 {
@@ -45,11 +48,22 @@ fn slots_impossible(logs: Logs, dev: &[u8]) -> bool
             seen = true;
         }
         let hold = judged.hold;
+        if hold.written == 0 {
+            for j in 0..writers {
+                if hold_codes::has(hold, written[j]) {
+                    return true;
+                }
+            }
+            holds[i] = hold;
+            continue;
+        }
         for j in 0..i {
-            if hold_codes::clash(hold, holds[j]) {
+            if hold_codes::has(holds[j], hold.written) {
                 return true;
             }
         }
+        written[writers] = hold.written;
+        writers += 1;
         holds[i] = hold;
     }
     false
