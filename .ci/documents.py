@@ -1,5 +1,6 @@
 """Fails where the documents and the tree disagree: a crate that crates.txt, README.md or docs/CLAIMS.md
-leaves out, or a name that a document gives and the file it gives it for does not have in public.
+leaves out, a name that a document gives and the file it gives it for does not have in public, or a public function with a
+`requires` that docs/DECISIONS.md does not list in 41.
 
 It is given as `crate/File: name, name`: File is `src` for the crate's src/*.rt, or else a module of its
 specs (`rules/Laws/Decided` is crates/rules/specs/Laws/Decided.antt)."""
@@ -79,6 +80,22 @@ def public(where):
     return spec_names(path) if os.path.exists(path) else None
 
 
+def asking(path):
+    """The public functions of a source file that have a `requires`: their callers have to have tested it."""
+    names, name = set(), None
+    for line in text_of(path).splitlines():
+        head = re.match(r"\s*pub\s+fn\s+(\w+)", line)
+        if head:
+            name = head.group(1)
+        elif line.strip() == "{":
+            name = None
+        if name and line.strip().startswith("requires"):
+            names.add(name)
+        if name and line.endswith("{") and not line.strip().startswith(("requires", "ensures")):
+            name = None
+    return names
+
+
 def main():
     wrong = []
     crates = listed()
@@ -100,6 +117,15 @@ def main():
             for name in names.split(","):
                 if name.strip() not in has:
                     wrong.append(f"{doc} names {name.strip()} of {where}, which has no such public name")
+    listing = re.search(r"\n41\. .*?(?=\n42\. )", text_of("docs/DECISIONS.md"), re.S).group(0)
+    listed_there = {(where, name.strip()) for where, names in CLAIM.findall(re.sub(r"\s+", " ", listing)) for name in names.split(",")}
+    for crate in crates:
+        for path in sorted(glob.glob(f"crates/{crate}/src/*.rt")):
+            wrong += [
+                f"docs/DECISIONS.md does not name {name} of {crate}/src in 41, and it has a requires"
+                for name in sorted(asking(path))
+                if (f"{crate}/src", name) not in listed_there
+            ]
     for line in wrong:
         print(line, file=sys.stderr)
     sys.exit(1 if wrong else 0)
