@@ -15,6 +15,7 @@
 #include <errno.h>
 #include <fcntl.h>
 #include <stdlib.h>
+#include <sys/klog.h>
 #include <sys/mman.h>
 #include <sys/mount.h>
 #include <sys/reboot.h>
@@ -25,6 +26,7 @@
 
 #define DEVICES "/sys/bus/pci/devices"
 #define PAGES 256 /* of which two that lie side by side are looked for */
+#define CONSOLE_LEVEL 8 /* klogctl's request, and the level at which all of the kernel's log is shown */
 
 uint32_t guest_get(struct guest *guest, uint32_t offset)
 {
@@ -138,12 +140,12 @@ static bool test(void)
         mmap(NULL, PAGES * GUEST_PAGE, PROT_READ | PROT_WRITE, MAP_PRIVATE | MAP_ANONYMOUS | MAP_POPULATE | MAP_LOCKED, -1, 0);
 
     if (!find_device(name) || !map_device(&guest, name)) {
-        guest_say("no device\nGUEST FAIL");
+        guest_say("there is no device that can be mapped");
         return false;
     }
     guest_say("device %s", name);
     if (pages == MAP_FAILED || !find_mailboxes(&guest, pages)) {
-        guest_say("no memory for mailboxes\nGUEST FAIL");
+        guest_say("there is no memory for mailboxes");
         return false;
     }
     return sequence_run(&guest);
@@ -204,7 +206,8 @@ int main(void)
     setvbuf(stdout, NULL, _IOLBF, 0);
 
     if (asked("ecgslope_test"))
-        test();
+        guest_say("%s", test() ? "PASS" : "FAIL");
+    klogctl(CONSOLE_LEVEL, NULL, CONSOLE_LEVEL); /* the kernel was told to be quiet so far */
     load_drivers();
     if (asked("ecgslope_shell"))
         shell();

@@ -33,6 +33,7 @@ static int ecgslope_probe(struct pci_dev *pci, const struct pci_device_id *id)
 {
     struct guest *guest = devm_kzalloc(&pci->dev, sizeof *guest, GFP_KERNEL);
     dma_addr_t in, out;
+    bool passed;
     int failed;
 
     if (!guest)
@@ -56,7 +57,9 @@ static int ecgslope_probe(struct pci_dev *pci, const struct pci_device_id *id)
     guest->in_address = in;
     guest->out_address = out;
     guest->traffic = traffic;
-    return sequence_run(guest) ? 0 : -EIO;
+    passed = sequence_run(guest);
+    guest_say("%s", passed ? "PASS" : "FAIL");
+    return passed ? 0 : -EIO;
 }
 
 static const struct pci_device_id ecgslope_ids[] = { { PCI_DEVICE(ECGSLOPE_PCI_VENDOR, ECGSLOPE_PCI_DEVICE) }, { } };

@@ -221,7 +221,8 @@ static void engines_write(struct guest *guest)
     for (unsigned int i = 0; i < TRIES && !met; i++) {
         run(guest, 0, guest->out_address, QP, 0, BAR_GO | ECGSLOPE_QUERY_QP);
         met = memcmp(guest->out + 0x6c, guest->record + 0x6c, 4) != 0;
-        guest_pause();
+        for (unsigned int j = 0; j < 10 && !met; j++)
+            guest_pause(); /* no command holds the record */
     }
     expect(guest, "the engines wrote a PSN", met, guest->traffic);
 }
@@ -293,6 +294,5 @@ bool sequence_run(struct guest *guest)
     expect(guest, "go was seen to be set", guest->seen > 0, 1);
     guest_say("%u steps, %u wrong; go was seen set %u times, %u commands were tried again", guest->steps, guest->wrong, guest->seen,
               guest->busy);
-    guest_say("%s", guest->wrong == 0 ? "PASS" : "FAIL");
     return guest->wrong == 0;
 }

@@ -22,16 +22,15 @@
 #define GUEST_PAGE 4096
 
 struct guest {
-    void *io;                        /* BAR0 */
-    uint8_t *in, *out;               /* two pages that lie side by side, and one page */
+    void *io;                         /* BAR0 */
+    uint8_t *in, *out;                /* two pages that lie side by side, and one page */
     uint64_t in_address, out_address; /* where the adapter finds them */
-    bool traffic;                    /* the device has engine requests of its own */
+    bool traffic;                     /* the device has engine requests of its own */
 
-    uint8_t record[256];  /* what queue pair's record has to be */
-    unsigned int steps;   /* what was looked at, and how much of it was wrong */
-    unsigned int wrong;
-    unsigned int seen;    /* how often go was still set when a command was polled */
-    unsigned int busy;    /* how often a command was tried again because the engines held its record */
+    uint8_t record[256];       /* what the queue pair's record has to be */
+    unsigned int steps, wrong; /* what was looked at, and how much of it was wrong */
+    unsigned int seen;         /* how often go was still set when a command was polled */
+    unsigned int busy;         /* how often a command was tried again because the engines held its record */
 };
 
 /* Given by the program and by the module. */
@@ -39,7 +38,7 @@ uint32_t guest_get(struct guest *guest, uint32_t offset);
 void guest_put(struct guest *guest, uint32_t offset, uint32_t value);
 void guest_pause(void); /* some 50 microseconds */
 
-/* Runs all of it, with a line for each step. Whether all was as it should be. */
+/* Runs all of it, with a line for each step, and says whether all was as it should be. */
 bool sequence_run(struct guest *guest);
 
 #endif
