@@ -181,10 +181,10 @@ static void shell(void)
     pid_t child = fork();
 
     if (child == 0) {
-        setsid();
         setenv("PATH", "/bin", 1);
         setenv("PS1", "guest# ", 1);
-        execl("/bin/busybox", "sh", "-c", "/bin/busybox --install -s /bin; exec setsid -c sh", (char *)NULL);
+        /* The serial line as its terminal, so that there is job control. */
+        execl("/bin/busybox", "sh", "-c", "/bin/busybox --install -s /bin; exec setsid -c sh </dev/ttyS0 >/dev/ttyS0 2>&1", (char *)NULL);
         _exit(1);
     }
     waitpid(child, NULL, 0);
