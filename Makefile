@@ -2,7 +2,7 @@
 # it; `make test` runs all tests, the same as the gate; `make clients` runs the programs in C and Rust that use the library;
 # `make vm` boots Linux in QEMU with the adapter in it and tests that; `make vm-shell DRIVER=my.ko` boots it with a driver of one's own;
 # `make speed` measures the library against plain Rust; `make install` puts the library, its header and its pkg-config file under PREFIX.
-.PHONY: demo replay test speed clients vm vm-shell install kit
+.PHONY: demo replay test speed clients vm vm-setup vm-shell install kit
 SHELL := bash
 PREFIX ?= /usr/local
 VERSION := 4.0.0
@@ -27,10 +27,14 @@ speed: $(LIBRARY)
 clients: $(LIBRARY)
 	@tools/clients
 
-vm: $(LIBRARY) $(ECGSLOPE_REPLAY)
+# The set-up comes first: whether it can be done is known in a minute.
+vm: vm-setup $(LIBRARY) $(ECGSLOPE_REPLAY)
 	@tools/vm
 
-vm-shell: $(LIBRARY)
+vm-setup:
+	@tools/vm --setup
+
+vm-shell: vm-setup $(LIBRARY)
 	@PROPERTIES='$(PROPERTIES)' ARGS='$(ARGS)' tools/vm --shell $(DRIVER)
 
 install: $(LIBRARY)
