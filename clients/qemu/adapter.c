@@ -104,8 +104,8 @@ static void start_command(struct adapter *adapter)
 
 /*
  * The answer goes to guest memory first, then go is cleared. A posted write is not acknowledged: where the answer cannot be written it is
- * lost. out_param may even name our own registers. Then the command register is not written, since go is set; a reset is done, and
- * nothing is left to say.
+ * lost. out_param may even name our own registers. Then the command register is not written, since go is set; and if it is a reset, all
+ * words are 0 then, and stay so: the status is 0, too.
  */
 static void finish_command(struct adapter *adapter, uint32_t answer, const uint8_t *out)
 {
@@ -115,8 +115,7 @@ static void finish_command(struct adapter *adapter, uint32_t answer, const uint8
         traffic_done(&adapter->traffic, op(adapter), adapter->hcr[2]);
     if (ecgslope_number(answer) == ECGSLOPE_OK && ecgslope_value(answer) > 0)
         adapter->memory.write(adapter->memory.owner, address, out, ecgslope_value(answer));
-    if ((adapter->hcr[LAST_WORD] & BAR_GO) != 0)
-        answer_command(adapter, ecgslope_number(answer));
+    answer_command(adapter, ecgslope_number(answer));
 }
 
 /* One burst of a slot's request; after the last, the slot is collected. No refusal is expected of either call, and one ends the request. */

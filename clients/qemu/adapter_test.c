@@ -1,9 +1,9 @@
 // SPDX-License-Identifier: GPL-2.0-or-later
 /*
  * adapter_test TRACE: the adapter without a virtual machine, with guest memory of which a page is missing. First what a driver in a guest
- * cannot arrange: which memory is read and written, and when. Then drivers that write registers at random, with traffic, each as long
- * as it takes: a command that is refused because of what is under way is tried again and has to get through. The trace of the last
- * part is for `replay`.
+ * cannot arrange: which memory is read and written, and when. Then drivers that send commands at random, with traffic: a command that is
+ * refused because of what is under way is tried again and has to get through once the engines' requests have ended. The trace of the
+ * last driver is for `replay`.
  */
 #include "adapter.h"
 
@@ -18,6 +18,7 @@
 #define LOST (BASE + PAGE)
 #define THIRD (BASE + 2 * PAGE)
 #define STORE_BYTES 2688u
+#define DRAINED (7 * 24) /* bursts of seven engine requests of the longest kind */
 
 static uint8_t memory[PAGES * PAGE];
 static unsigned reads, writes;
@@ -39,13 +40,17 @@ static bool is_there(uint64_t address, size_t len)
            (address >= THIRD && address < THIRD + PAGE && len <= THIRD + PAGE - address);
 }
 
+/* The very last page of all addresses can be read, too, and so can the first. */
 static bool read_memory(void *owner, uint64_t address, uint8_t *bytes, size_t len)
 {
     (void)owner;
     reads++;
-    if (!is_there(address, len))
+    if (is_there(address, len))
+        memcpy(bytes, memory + (address - BASE), len);
+    else if (address >= 0 - (uint64_t)PAGE || address < PAGE)
+        memset(bytes, 0, len);
+    else
         return false;
-    memcpy(bytes, memory + (address - BASE), len);
     return true;
 }
 
@@ -98,6 +103,12 @@ static uint32_t run(uint32_t op, uint32_t op_modifier, uint32_t index, uint64_t 
     return adapter_read(&adapter, BAR_HCR_LAST) >> 24;
 }
 
+static void tick(uint32_t ticks)
+{
+    while (ticks-- > 0)
+        adapter_tick(&adapter);
+}
+
 static void open_adapter(void)
 {
     memset(memory, 0, sizeof memory);
@@ -127,12 +138,22 @@ static void mailboxes(void)
     check("SW2HW_EQ 1 at the last address: reads", reads, 1);
 }
 
+/* What is written to the command register while go is set is dropped. */
+static void written_while_go(void)
+{
+    begin(ECGSLOPE_QUERY_QP, 0, 1, 0, THIRD);
+    for (uint32_t i = 0; i < BAR_HCR_WORDS; i++)
+        adapter_write(&adapter, BAR_HCR + 4 * i, 0xffffffff);
+    check("written while go: in_modifier", adapter_read(&adapter, BAR_HCR + 8), 1);
+    check("written while go: last word", adapter_read(&adapter, BAR_HCR_LAST), BAR_GO | ECGSLOPE_QUERY_QP);
+    tick(16);
+}
+
 /* An answer is written once, after the last burst and before go is clear. */
 static void answers(void)
 {
     check("QUERY_QP: go", begin(ECGSLOPE_QUERY_QP, 0, 1, 0, THIRD) & BAR_GO, BAR_GO);
-    for (unsigned i = 0; i < 15; i++)
-        adapter_tick(&adapter);
+    tick(15);
     check("QUERY_QP, 15 bursts: writes", writes, 0);
     check("QUERY_QP, 15 bursts: last word", adapter_read(&adapter, BAR_HCR_LAST), BAR_GO | ECGSLOPE_QUERY_QP);
     adapter_tick(&adapter);
@@ -161,7 +182,42 @@ static void resets(void)
     check("reset by an answer: closed", run(ECGSLOPE_QUERY_QP, 0, 1, 0, THIRD), ECGSLOPE_BAD_SYSTEM_STATE);
 }
 
-/* A random command on queue pair 0 to 3 or on another record; now and then a register that is no good, or an adapter's end. */
+/* A command, tried again after waits of up to so many ticks for as long as it is refused because of what is under way. */
+static uint32_t insist(uint64_t *random, uint32_t longest, uint32_t op, uint32_t modifier, uint32_t index, uint64_t in)
+{
+    uint32_t waited = 0, wait, status;
+
+    while ((status = run(op, modifier, index, in, THIRD)) == ECGSLOPE_BUSY && waited < DRAINED) {
+        wait = 1 + random_below(random, longest);
+        tick(wait);
+        waited += wait;
+    }
+    check("a command gets through", status == ECGSLOPE_BUSY, false);
+    return status;
+}
+
+/* The engines have work from a queue pair's first edge to its reset, the adapter's end, or the reset register. */
+static void engines_end(uint32_t op, uint32_t modifier, uint32_t index)
+{
+    uint64_t random = random_from(op);
+
+    start(NULL, op, 1);
+    open_adapter();
+    check("no queue pair is up: no tick is due", adapter_due(&adapter), 0);
+    memset(memory, 0, PAGE);
+    check("RST2INIT_QP", run(ECGSLOPE_RST2INIT_QP, 0, 1, BASE, 0), ECGSLOPE_OK);
+    tick(1000);
+    check("a queue pair is up: a tick is due", adapter_due(&adapter) > 0, true);
+    if (op == 0)
+        adapter_write(&adapter, BAR_RESET, 1);
+    else
+        insist(&random, 1, op, modifier, index, BASE);
+    tick(DRAINED);
+    check("no queue pair is up any more: no tick is due", adapter_due(&adapter), 0);
+    adapter_close(&adapter);
+}
+
+/* A random command on queue pair 0 to 3 or on another record; now and then without its mailbox, not served, or the adapter's end. */
 static void random_command(uint64_t *random)
 {
     static const uint32_t ops[] = {
@@ -169,24 +225,20 @@ static void random_command(uint64_t *random)
         ECGSLOPE_2RST_QP,     ECGSLOPE_QUERY_QP,    ECGSLOPE_SW2HW_CQ,   ECGSLOPE_HW2SW_CQ,   ECGSLOPE_RESIZE_CQ,   ECGSLOPE_SW2HW_MPT,
         ECGSLOPE_HW2SW_MPT,   ECGSLOPE_NOP,         ECGSLOPE_CLOSE_HCA,  0x24,
     };
-    uint32_t op = ops[random_below(random, sizeof ops / sizeof ops[0])], index = random_below(random, 4), ticks = 0;
+    uint32_t op = ops[random_below(random, sizeof ops / sizeof ops[0])], index = random_below(random, 4);
     uint32_t modifier = op == ECGSLOPE_2ERR_QP || op == ECGSLOPE_2RST_QP ? 3 : 0;
 
     if (op == ECGSLOPE_CLOSE_HCA || op == ECGSLOPE_NOP)
         index = 0;
     for (size_t i = 0; i < ECGSLOPE_QP_MAILBOX_BYTES; i++)
         memory[i] = (uint8_t)random_below(random, 256);
-    memset(memory, 0, 4); /* service type RC */
+    memset(memory, 0, 4);             /* service type RC */
+    memset(memory + 0x2c, 0, 4);      /* a completion queue's own number */
     memory[0x2f] = (uint8_t)index;
-    if (random_below(random, 2) == 0) /* the names of a completion queue and an event queue that there are */
+    if (random_below(random, 2) == 0) /* the name of a completion queue that there is */
         memset(memory + 0x70, 0, 4);
-    while (run(op, modifier, index, random_below(random, 20) == 0 ? LOST : BASE, THIRD) == ECGSLOPE_BUSY) {
-        check("a command gets through", ticks < 7 * 24, true);
-        adapter_tick(&adapter);
-        if (++ticks > 7 * 24)
-            return;
-    }
-    if (op == ECGSLOPE_CLOSE_HCA && adapter_read(&adapter, BAR_HCR_LAST) >> 24 == ECGSLOPE_OK)
+    if (insist(random, 2 * DRAINED, op, modifier, index, random_below(random, 20) == 0 ? LOST : BASE) == ECGSLOPE_OK &&
+        op == ECGSLOPE_CLOSE_HCA)
         open_adapter();
 }
 
@@ -199,8 +251,7 @@ static void random_driver(const char *trace, uint64_t seed)
     open_adapter();
     for (unsigned i = 0; i < 1000; i++) {
         random_command(&random);
-        for (uint32_t ticks = random_below(&random, 40); ticks > 0; ticks--)
-            adapter_tick(&adapter);
+        tick(random_below(&random, 40));
         engines = 0;
         for (size_t slot = 0; slot < ECGSLOPE_SLOTS; slot++)
             engines += adapter.slot[slot].use == ADAPTER_ENGINE;
@@ -219,9 +270,13 @@ int main(int argc, char **argv)
         return 2;
     start(NULL, 0, 0);
     mailboxes();
+    written_while_go();
     answers();
     resets();
     adapter_close(&adapter);
+    engines_end(ECGSLOPE_2RST_QP, 3, 1);
+    engines_end(ECGSLOPE_CLOSE_HCA, 0, 0);
+    engines_end(0, 0, 0);
     for (uint64_t seed = 1; seed <= 200; seed++)
         random_driver(seed == 200 ? argv[1] : NULL, seed);
     return wrong;
