@@ -109,27 +109,29 @@ static uint64_t physical(const void *page)
     return (entry & ((1ull << 55) - 1)) * GUEST_PAGE;
 }
 
-/* Puts two of the pages that lie side by side in memory side by side here, too, as the mailbox; a third is for answers. */
+/* Puts two of the pages that lie side by side in memory side by side here, too, as the mailbox; another page is for answers. */
 static bool find_mailboxes(struct guest *guest, uint8_t *pages)
 {
+    static uint64_t at[PAGES];
     uint8_t *window = mmap(NULL, 2 * GUEST_PAGE, PROT_NONE, MAP_PRIVATE | MAP_ANONYMOUS, -1, 0);
+    size_t low = 1, high = 1;
 
-    for (size_t i = 1; i < PAGES; i++) {
-        for (size_t j = 1; j < PAGES; j++) {
-            uint8_t *low = pages + i * GUEST_PAGE, *high = pages + j * GUEST_PAGE;
-
-            if (physical(high) != physical(low) + GUEST_PAGE)
-                continue;
-            mremap(low, GUEST_PAGE, GUEST_PAGE, MREMAP_MAYMOVE | MREMAP_FIXED, window);
-            mremap(high, GUEST_PAGE, GUEST_PAGE, MREMAP_MAYMOVE | MREMAP_FIXED, window + GUEST_PAGE);
-            guest->in = window;
-            guest->in_address = physical(window);
-            guest->out = pages;
-            guest->out_address = physical(pages);
-            return guest->in_address != 0 && physical(window + GUEST_PAGE) == guest->in_address + GUEST_PAGE;
+    for (size_t i = 0; i < PAGES; i++)
+        at[i] = physical(pages + i * GUEST_PAGE);
+    while (low < PAGES && at[high] != at[low] + GUEST_PAGE)
+        if (++high == PAGES) {
+            high = 1;
+            low++;
         }
-    }
-    return false;
+    if (low == PAGES || at[low] == 0 || window == MAP_FAILED)
+        return false;
+    mremap(pages + low * GUEST_PAGE, GUEST_PAGE, GUEST_PAGE, MREMAP_MAYMOVE | MREMAP_FIXED, window);
+    mremap(pages + high * GUEST_PAGE, GUEST_PAGE, GUEST_PAGE, MREMAP_MAYMOVE | MREMAP_FIXED, window + GUEST_PAGE);
+    guest->in = window;
+    guest->in_address = at[low];
+    guest->out = pages;
+    guest->out_address = at[0];
+    return physical(window) == at[low] && physical(window + GUEST_PAGE) == at[high];
 }
 
 static bool test(void)
