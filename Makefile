@@ -1,12 +1,14 @@
 # `make demo` shows the model at work on a sample script, without proving anything; `make replay` proves and builds the program that ran
 # it; `make test` runs all tests, the same as the gate; `make clients` runs the programs in C and Rust that use the library;
+# `make vm` boots Linux in QEMU with the adapter in it and tests that; `make vm-shell DRIVER=my.ko` boots it with a driver of one's own;
 # `make speed` measures the library against plain Rust; `make install` puts the library, its header and its pkg-config file under PREFIX.
-.PHONY: demo replay test speed clients install kit
+.PHONY: demo replay test speed clients vm vm-setup vm-shell install kit
 SHELL := bash
 PREFIX ?= /usr/local
 VERSION := 4.0.0
 ECGSLOPE_LIB_DIR ?= target/staticlib
 LIBRARY := $(ECGSLOPE_LIB_DIR)/libecgslope.a
+ECGSLOPE_REPLAY ?= target/bin/replay
 
 demo: kit
 	@tools/demo
@@ -25,6 +27,16 @@ speed: $(LIBRARY)
 clients: $(LIBRARY)
 	@tools/clients
 
+# The set-up comes first: whether it can be done is known in a minute.
+vm: vm-setup $(LIBRARY) $(ECGSLOPE_REPLAY)
+	@tools/vm
+
+vm-setup:
+	@tools/vm --setup
+
+vm-shell: vm-setup $(LIBRARY)
+	@PROPERTIES='$(PROPERTIES)' ARGS='$(ARGS)' tools/vm --shell $(DRIVER)
+
 install: $(LIBRARY)
 	@install -d $(DESTDIR)$(PREFIX)/include $(DESTDIR)$(PREFIX)/lib/pkgconfig
 	@install -m 644 include/ecgslope.h $(DESTDIR)$(PREFIX)/include
@@ -37,6 +49,9 @@ install: $(LIBRARY)
 target/staticlib/libecgslope.a:
 	@$(MAKE) -s kit
 	@rt staticlib ecgslope
+
+target/bin/replay:
+	@$(MAKE) -s replay
 
 kit:
 	@command -v rt >/dev/null || { echo "rt is missing: install the Rattle kit and put its rt on the PATH" >&2; exit 1; }
