@@ -63,11 +63,11 @@ pub fn held(dev: &[u8], rec: Record, writes: bool) -> bool
     ensures { λ r. ⌜ r ≡ anySlot (clashSlot writes (rec ∷ [])) (rowOf (now (dev .entry))) ⌝ }
 {
     let number = record_kinds::number_of(rec);
-    for k in 0..8 {
-        if !may_hold(dev, k, number) {
+    for i in 0..8 {
+        if !may_hold(dev, i, number) {
             continue;
         }
-        if slot_holds(slot_readers::slot_at(dev, k), rec, writes) {
+        if slot_holds(slot_readers::slot_at(dev, i), rec, writes) {
             return true;
         }
     }

@@ -12,11 +12,11 @@ use Rattle.device_scans.proofs.held.Statement.{statement}
 use Rattle.device_scans.proofs.held.Tie as tie
 
 abbrev Inv-loop : tie.InvT-loop
-Inv-loop dev rec writes number k₀ k =
-    (k ≤ 8) × (anySlot (clashSlot writes (rec ∷ [])) (drop k (slotsOf 8 dev)) ≡ anySlot (clashSlot writes (rec ∷ [])) (slotsOf 8 dev))
+Inv-loop dev rec writes number i₀ i =
+    (i ≤ 8) × (anySlot (clashSlot writes (rec ∷ [])) (drop i (slotsOf 8 dev)) ≡ anySlot (clashSlot writes (rec ∷ [])) (slotsOf 8 dev))
 
 abbrev μ-loop : tie.MeasureT-loop
-μ-loop dev rec writes number k₀ k = 8 - k
+μ-loop dev rec writes number i₀ i = 8 - i
 
 number-of-requires : tie.Need-number-of-requires Inv-loop μ-loop
 number-of-requires c κs = search needs
@@ -27,8 +27,8 @@ loop-holds c = search needs
 may-hold-requires : tie.Need-may-hold-requires Inv-loop μ-loop
 may-hold-requires c κs = search needs
 
-add-k : tie.Need-add-k Inv-loop μ-loop
-add-k c = search needs
+add-i : tie.Need-add-i Inv-loop μ-loop
+add-i c = search needs
 
 loop-less : tie.Need-loop-less Inv-loop μ-loop
 loop-less c = search needs
@@ -45,8 +45,8 @@ slot-holds-requires c κs = search needs
 returns : tie.Need-returns Inv-loop μ-loop
 returns c = search (needs, held-found)
 
-add-k-2 : tie.Need-add-k-2 Inv-loop μ-loop
-add-k-2 c = search needs
+add-i-2 : tie.Need-add-i-2 Inv-loop μ-loop
+add-i-2 c = search needs
 
 loop-less-2 : tie.Need-loop-less-2 Inv-loop μ-loop
 loop-less-2 c = search needs
@@ -66,13 +66,13 @@ held-spec =
     number-of-requires
     loop-holds
     may-hold-requires
-    add-k
+    add-i
     loop-less
     loop-again
     slot-at-requires
     slot-holds-requires
     returns
-    add-k-2
+    add-i-2
     loop-less-2
     loop-again-2
     returns-2)
