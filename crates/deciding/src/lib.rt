@@ -5,6 +5,7 @@ use engines::EngineFound;
 use engines::NumberFound;
 use possible::Hca;
 use requests::Request;
+use rows::SlotFound;
 use rules::Decision;
 use rules::Refusal;
 use slots::Slot;
@@ -13,23 +14,54 @@ ghost use mathlib.Core.List.{List};
 ghost use Prim.Native.Nat.{ℕ};
 ghost use Rattle.possible.specs.declared.Hca.{Hca as State};
 ghost use Rattle.records.specs.Calls.{Stored};
+ghost use Rattle.slots.specs.declared.Slot.{Slot as RowSlot};
+ghost use Rattle.rows.specs.Rows.{lowestFree};
+ghost use Rattle.holds.specs.Holds.{heldAgainst};
 ghost use Rattle.rules.specs.World.{world};
 ghost use Rattle.rules.specs.Admission.{decideVerdict, decideRequest};
 ghost use Rattle.rules.specs.Engines.{decideAsked, decideNumber, decideEngine};
 ghost use Rattle.deciding.specs.Ready.{OpenFits, EngineStored};
 
-// What the record says of the request.
-fn decide_verdict(row: [Slot; 8], request: Request, verdict: Verdict) -> Decision
-    ensures { λ r. ⌜ ((h : State) (store room : List ℕ) → r ≡ decideVerdict (world h row store room) request verdict) ⌝ }
+// What the record says of the request, with the lowest free slot.
+fn decide_verdict(free: SlotFound, request: Request, verdict: Verdict) -> Decision
+    ensures { λ r. ⌜ ((h : State) (row : List RowSlot) (store room : List ℕ) → free ≡ lowestFree 0 row
+        → r ≡ decideVerdict (world h row store room) request verdict) ⌝ }
 {
     match verdict {
-        Verdict::Permitted => deciding_joined::decide_place(request, row_scans::lowest_free(row)),
+        Verdict::Permitted => deciding_joined::decide_place(request, free),
         Verdict::Denied(denial) => Decision::Refuse(Refusal::Denied(denial)),
     }
 }
 
 // The end of both decisions: the mailbox, the holds, the record and the slot. The record is judged
-// only once nobody holds it, since a held one may be half written.
+// only once nobody holds it, since a held one may be half written. Of the row it asks two things
+// alone: whether a record is held against the request, and which slot is the lowest free one.
+pub fn decide_known(
+    hca: Hca,
+    held: bool,
+    free: SlotFound,
+    store: &[u8],
+    mail: &[u8],
+    request: Request,
+) -> Decision
+    requires { ⌜ Stored (hca .logs) (now store) request ⌝ }
+    ensures { λ r. ⌜ ((row : List RowSlot) (room : List ℕ) → held ≡ heldAgainst row request → free ≡ lowestFree 0 row
+        → r ≡ decideRequest (world hca row (now (store .entry)) room) request (now (mail .entry))) ⌝ }
+{
+    if mail.len() < mailboxes::need(request) {
+        return Decision::Refuse(Refusal::ShortMailbox);
+    }
+    if !contents::content_holds(request, mail) {
+        return Decision::Refuse(Refusal::BadContent);
+    }
+    if held {
+        return Decision::Refuse(Refusal::Held);
+    }
+    let logs = hca.logs;
+    decide_verdict(free, request, records::permission(logs, store, request))
+}
+
+// The same of a row of typed slots.
 pub fn decide_request(
     hca: Hca,
     row: [Slot; 8],
@@ -40,17 +72,14 @@ pub fn decide_request(
     requires { ⌜ Stored (hca .logs) (now store) request ⌝ }
     ensures { λ r. ⌜ ((room : List ℕ) → r ≡ decideRequest (world hca row (now (store .entry)) room) request (now (mail .entry))) ⌝ }
 {
-    if mail.len() < mailboxes::need(request) {
-        return Decision::Refuse(Refusal::ShortMailbox);
-    }
-    if !contents::content_holds(request, mail) {
-        return Decision::Refuse(Refusal::BadContent);
-    }
-    if hold_scans::held(row, request) {
-        return Decision::Refuse(Refusal::Held);
-    }
-    let logs = hca.logs;
-    decide_verdict(row, request, records::permission(logs, store, request))
+    decide_known(
+        hca,
+        hold_scans::held(row, request),
+        row_scans::lowest_free(row),
+        store,
+        mail,
+        request,
+    )
 }
 
 // Index, PSN and state of an engine request. It has no mailbox. A joined read is asked for by its queue

@@ -4,34 +4,36 @@ use mathlib.Core.Bool.{Bool, true, false}
 use mathlib.Core.List.{List, []}
 use Prim.Native.Nat.{ℕ}
 use lib.ListN.{length}
-use Rattle.words.specs.Choice.{pick}
 use Rattle.engines.specs.Engines.{readNumber}
 use Rattle.engines.specs.declared.NumberFound.{NumberFound}
-use Rattle.slots.specs.declared.Slot.{Slot}
 use Rattle.possible.specs.declared.Hca.{Hca}
 use Rattle.rules.specs.declared.Decision.{Decision}
 use Rattle.rules.specs.World.{World, world, badLent, badState}
 use Rattle.rules.specs.Admission.{applied}
 use Rattle.rules.specs.Engines.{decideNumber, decideEngine, submitEngine}
 use Rattle.rules.specs.Laws.Decided.{Passing}
-use Rattle.deciding.specs.Ready.{OpenFits, passing-fits}
-use Rattle.applying.specs.Applies.{Applies, engine-applies}
+use Rattle.deciding.specs.Ready.{passing-fits}
+use Rattle.applying.specs.Applies.{engine-applies}
 use Rattle.device_bytes.specs.Decoding.{rowOf, hcaOf}
 use Rattle.device_calls.specs.Calls.{worldOf, Left, left, submitLeft, engineCall}
+use Rattle.device_calls.specs.Decodes.{flag-right}
 use Rattle.device_calls.specs.Tests.{firstNumber, first-is, worldNumber, Tested, tested}
 use Rattle.exported_apply.specs.Applied.{Ready}
+use Rattle.exported_engine.specs.Asked.{NumberReady}
 
 module _ (dev store room : List ℕ) (t : Tested dev store room) (h : Hca) (is : h ≡ hcaOf dev) where
-  pub opened-fits : OpenFits h store
-  opened-fits = rw is (passing-fits (hcaOf dev) (rowOf dev) store room (t .passing))
+  pub number-ready : NumberReady h dev store
+  number-ready = record {
+    row = record { sized = t .sized; flag = flag-right dev store room (t .sized) (t .passing .possible) };
+    fits = rw is (passing-fits (hcaOf dev) (rowOf dev) store room (t .passing));
+  }
 
-  module _ (number index psn state : ℕ) (row : List Slot) (f : NumberFound) (d : Decision) (row-is : row ≡ rowOf dev)
-      (found : f ≡ readNumber number) (told : (rm : List ℕ) → d ≡ decideNumber (world h row store rm) index psn state f) where
+  module _ (number index psn state : ℕ) (f : NumberFound) (d : Decision) (found : f ≡ readNumber number)
+      (told : (rm : List ℕ) → d ≡ decideNumber (world h (rowOf dev) store rm) index psn state f) where
     pub decided : d ≡ decideNumber (worldOf dev store room) index psn state (readNumber number)
     decided =
         told room
-        ∙ ap (λ (x : Hca). decideNumber (world x row store room) index psn state f) is
-        ∙ ap (λ (x : List Slot). decideNumber (world (hcaOf dev) x store room) index psn state f) row-is
+        ∙ ap (λ (x : Hca). decideNumber (world x (rowOf dev) store room) index psn state f) is
         ∙ ap (decideNumber (worldOf dev store room) index psn state) found
 
     -- the first tests passed, so that the number decides

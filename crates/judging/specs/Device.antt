@@ -52,7 +52,7 @@ module _ (dev : List ℕ) where
       let z : k ≡ 8 = omega arith in
       sym (rw z at e)
 
-  some-occupied : (k : ℕ) → ¬ (getD dev (32 + k * 32) 0 ≡ 0) → isOccupied (slotAt k dev) ≡ true
+  pub some-occupied : (k : ℕ) → ¬ (getD dev (32 + k * 32) 0 ≡ 0) → isOccupied (slotAt k dev) ≡ true
   unfolding slotAt statusOf
   some-occupied k some =
       let f : getD (part (slotPlace k) 32 dev) 0 0 ≡ getD dev (32 + k * 32) 0 =
@@ -99,21 +99,22 @@ pub open-slots : (h : Hca) (dev : List ℕ) (t b : Bool) → t ≡ fitsStore (h 
 unfolding openDevice openImpossible slotsImpossible
 open-slots h dev t b e f i = rw (← e, not-false t f) i
 
+-- open or closed
+pub slots-are : (dev : List ℕ) → length dev ≡ 288 → getD dev 0 0 ≤ 1 → rowOf dev ≡ slotsOf 8 dev
+unfolding rowOf
+slots-are dev l k = rw (l, le-ltb 1 (getD dev 0 0) k)
+
 module _ (h : Hca) (dev : List ℕ) (l : length dev ≡ 288) where
   -- neither open nor closed
   pub device-junk : 1 < getD dev 0 0 → true ≡ impossible h (rowOf dev)
   unfolding rowOf
   device-junk k = rw (l, lt-ltb 1 (getD dev 0 0) k) (junk h _ 0 refl)
 
-  slots-are : getD dev 0 0 ≤ 1 → rowOf dev ≡ slotsOf 8 dev
-  unfolding rowOf
-  slots-are k = rw (l, le-ltb 1 (getD dev 0 0) k)
-
   pub device-open : (b : Bool) → getD dev 0 0 ≤ 1 → h .«open» ≡ true → b ≡ openDevice h dev → b ≡ impossible h (rowOf dev)
   unfolding impossible openDevice
-  device-open b k o e = rw (slots-are k, o) e
+  device-open b k o e = rw (slots-are dev l k, o) e
 
   pub device-closed : (b : Bool) → getD dev 0 0 ≤ 1 → h .«open» ≡ false → b ≡ anySlot isOccupied (slotsOf 8 dev)
       → b ≡ impossible h (rowOf dev)
   unfolding impossible
-  device-closed b k o e = rw (slots-are k, o) e
+  device-closed b k o e = rw (slots-are dev l k, o) e

@@ -8,9 +8,6 @@ use Rattle.deciding.proofs.decide_verdict.Tie as tie
 enum-told : tie.Need-enum-told
 enum-told c = search needs
 
-lowest-free-requires : tie.Need-lowest-free-requires
-lowest-free-requires c κs = search needs
-
 decide-place-requires : tie.Need-decide-place-requires
 decide-place-requires c κs = search needs
 
@@ -19,20 +16,11 @@ enum-known-verdict c = search needs
 
 returns : tie.Need-returns
 unfolding decideVerdict
-returns c h store room =
-    rw (c .before .before .enum-told .given .1) (c .decide-place .ensures ∙ ap (decidePlace _) (c .before .lowest-free .ensures))
+returns c h row store room e = rw (c .before .enum-told .given .1) (c .decide-place .ensures ∙ ap (decidePlace _) e)
 
 returns-2 : tie.Need-returns-2
 unfolding decideVerdict
-returns-2 c h store room = rw (c .before .verdict .given .1)
+returns-2 c h row store room e = rw (c .before .verdict .given .1)
 
 pub decide-verdict-spec : {M : Type 1} → statement M
-decide-verdict-spec =
-    tie.close
-    (tie.spec
-    enum-told
-    lowest-free-requires
-    decide-place-requires
-    enum-known-verdict
-    returns
-    returns-2)
+decide-verdict-spec = tie.close (tie.spec enum-told decide-place-requires enum-known-verdict returns returns-2)

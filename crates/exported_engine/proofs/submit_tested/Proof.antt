@@ -1,5 +1,5 @@
 -- `exported_engine::submit_tested` meets its contract.
-use Rattle.exported_engine.specs.Decided.{opened-fits, can-apply, left-decided}
+use Rattle.exported_engine.specs.Decided.{number-ready, can-apply, left-decided}
 use borrow.Author.Needs.{needs}
 use Rattle.exported_engine.proofs.submit_tested.Statement.{statement}
 use Rattle.exported_engine.proofs.submit_tested.Tie as tie
@@ -7,14 +7,11 @@ use Rattle.exported_engine.proofs.submit_tested.Tie as tie
 read-hca-requires : tie.Need-read-hca-requires
 read-hca-requires c κs = search needs
 
-read-row-requires : tie.Need-read-row-requires
-read-row-requires c κs = search needs
-
 read-number-requires : tie.Need-read-number-requires
 read-number-requires c κs = search needs
 
-decide-number-requires : tie.Need-decide-number-requires
-decide-number-requires c κs = opened-fits _ _ _ (c .before .before .before .before .before .before .before .before .before .pre) _ (c .before .before .before .before .read-hca .ensures)
+decide-requires : tie.Need-decide-requires
+decide-requires c κs = number-ready _ _ _ (c .before .before .before .before .before .before .before .before .pre) _ (c .before .before .before .read-hca .ensures)
 
 slice-aggregate-apply : tie.Need-slice-aggregate-apply
 slice-aggregate-apply c = search needs
@@ -22,8 +19,8 @@ slice-aggregate-apply c = search needs
 apply-requires : tie.Need-apply-requires
 apply-requires c κs =
     let a = c .before .before .before .before in
-    can-apply _ _ _ (c .before .before .before .before .before .before .before .before .before .before .before .before .before .before .pre) _ (a .before .before .before .before .before .read-hca .ensures) _ _ _ _ _ _ _
-    (a .before .before .before .read-row .ensures) (a .before .read-number .ensures .0) (a .decide-number .ensures)
+    can-apply _ _ _ (c .before .before .before .before .before .before .before .before .before .before .before .before .before .pre) _ (a .before .before .before .before .read-hca .ensures) _ _ _ _ _ _
+    (a .before .read-number .ensures .0) (a .decide .ensures)
 
 same-length : tie.Need-same-length
 same-length c = search needs
@@ -37,17 +34,16 @@ same-length-3 c = search needs
 returns : tie.Need-returns
 returns c =
     let a = c .before .before .before .before .before .before .before .before .before .before .before in
-    left-decided _ _ _ (c .before .before .before .before .before .before .before .before .before .before .before .before .before .before .before .before .before .before .before .before .before .pre) _ (a .before .before .before .before .before .read-hca .ensures) _ _ _ _ _ _ _
-    (a .before .before .before .read-row .ensures) (a .before .read-number .ensures .0) (a .decide-number .ensures) _ (c .before .before .before .before .before .before .apply .ensures)
+    left-decided _ _ _ (c .before .before .before .before .before .before .before .before .before .before .before .before .before .before .before .before .before .before .before .before .pre) _ (a .before .before .before .before .read-hca .ensures) _ _ _ _ _ _
+    (a .before .read-number .ensures .0) (a .decide .ensures) _ (c .before .before .before .before .before .before .apply .ensures)
 
 pub submit-tested-spec : {M : Type 1} → statement M
 submit-tested-spec =
     tie.close
     (tie.spec
     read-hca-requires
-    read-row-requires
     read-number-requires
-    decide-number-requires
+    decide-requires
     slice-aggregate-apply
     apply-requires
     same-length
