@@ -126,8 +126,8 @@ fn step_joined(
     count_burst(dev, k, m, 24)
 }
 
-// A step of slot k. The requests that read whole records move the most bursts: they are stepped on
-// the slot's bytes, and no slot is built.
+// A step of slot k. A request that reads whole records is stepped on the slot's bytes, and no slot is
+// built: to write one and copy it on takes longer than the burst.
 fn step_bytes(hca: Hca, dev: &mut [u8], store: &mut [u8], room: &mut [u8], k: usize) -> u32
     requires { ⌜ Ready hca (now dev) (now store) (now room) k ⌝ }
     ensures { λ r. ⌜ left r (now (dev .exit)) (now (store .exit)) (now (room .exit))
