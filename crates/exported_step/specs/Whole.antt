@@ -209,43 +209,43 @@ module _ {h : Hca} {dev store room : List ℕ} {k m : ℕ} {q : Request} (x : Re
 
 -- ---- the three requests, by the tests of the code
 
-module _ {h : Hca} {dev store room : List ℕ} {k : ℕ} (r : Ready h dev store room k) {n : ℕ} (n-is : n ≡ le32 (slotPlace k + 8) dev)
-    (small : n < 2 ^ 32) where
+module _ {h : Hca} {dev store room : List ℕ} {k : ℕ} (r : Ready h dev store room k) where
   word : (i : ℕ) → i + 4 ≤ 32 → le32 i (bytesAt k dev) ≡ le32 (slotPlace k + i) dev
   unfolding le32
   word i f = ap leValue (part-part (slotPlace k) 32 i 4 dev (omega (arith, r .below, r .passed .sized)) f)
 
-  pub all-reading : {t : Bool} → t ≡ runs 1 6 k dev → t ≡ true → Reading h dev store room k (getD dev (slotPlace k + 2) 0) (qpRead (record { 0 = n }))
-  all-reading told holds =
-      let top : Head 1 6 (bytesAt k dev) = head k dev (sym told ∙ holds) in
+  -- the bytes give a request that reads what q reads
+  reading : (kind number : ℕ) (p : Request) {q : Request} {t : Bool} → t ≡ runs kind number k dev → t ≡ true
+      → requestFrom kind number (le32 (slotPlace k + 8) dev) (le32 (slotPlace k + 12) dev) (le32 (slotPlace k + 16) dev)
+      (le32 20 (bytesAt k dev)) (getD (bytesAt k dev) 24 0) ≡ found.Request p
+      → Alike p q → Reading h dev store room k (getD dev (slotPlace k + 2) 0) q
+  reading kind number p told holds given same =
+      let top : Head kind number (bytesAt k dev) = head k dev (sym told ∙ holds) in
       record {
         ready = r;
-        request = qpRead (record { 0 = n });
-        held = runs-it k dev top _ (request-is (bytesAt k dev) top ∙ rw (word 8 (lit≤ tt), ← n-is) (all-found n _ _ _ _ small));
-        alike = record { reads = refl; record-is = refl; records-are = refl; bursts-are = refl };
-      }
-
-  pub query-reading : {t : Bool} → t ≡ runs 0 0x22 k dev → t ≡ true
-      → Reading h dev store room k (getD dev (slotPlace k + 2) 0) (qpRead (record { 0 = n }))
-  query-reading told holds =
-      let top : Head 0 0x22 (bytesAt k dev) = head k dev (sym told ∙ holds) in
-      record {
-        ready = r;
-        request = request.Command (command.QueryQp (record { 0 = n }));
-        held = runs-it k dev top _ (request-is (bytesAt k dev) top ∙ rw (word 8 (lit≤ tt), ← n-is) (query-found n 0 0 0 0 small));
-        alike = record { reads = refl; record-is = refl; records-are = refl; bursts-are = refl };
-      }
-
-  pub joined-reading : {c e : ℕ} {t : Bool} → c ≡ le32 (slotPlace k + 12) dev → e ≡ le32 (slotPlace k + 16) dev → t ≡ runs 1 7 k dev → t ≡ true
-      → Reading h dev store room k (getD dev (slotPlace k + 2) 0) (joinedRead (record { 0 = n }) (record { 0 = c }) (record { 0 = e }))
-  joined-reading {c = c} {e = e} c-is e-is told holds =
-      let top : Head 1 7 (bytesAt k dev) = head k dev (sym told ∙ holds) in
-      record {
-        ready = r;
-        request = joinedRead (record { 0 = n }) (record { 0 = c }) (record { 0 = e });
+        request = p;
         held =
-            runs-it k dev top _
-            (request-is (bytesAt k dev) top
-            ∙ rw (word 8 (lit≤ tt), word 12 (lit≤ tt), word 16 (lit≤ tt), ← n-is, ← c-is, ← e-is) (joined-found n c e _ _ small));
-        alike = record { reads = refl; record-is = refl; records-are = refl; bursts-are = refl };
+            runs-it k dev top p
+            (request-is (bytesAt k dev) top ∙ rw (word 8 (lit≤ tt), word 12 (lit≤ tt), word 16 (lit≤ tt)) given);
+        alike = same;
       }
+
+  module _ {n : ℕ} (n-is : n ≡ le32 (slotPlace k + 8) dev) (small : n < 2 ^ 32) where
+    pub all-reading : {t : Bool} → t ≡ runs 1 6 k dev → t ≡ true
+        → Reading h dev store room k (getD dev (slotPlace k + 2) 0) (qpRead (record { 0 = n }))
+    all-reading told holds =
+        reading 1 6 (qpRead (record { 0 = n })) told holds (rw (← n-is) (all-found n _ _ _ _ small))
+        record { reads = refl; record-is = refl; records-are = refl; bursts-are = refl }
+
+    pub query-reading : {t : Bool} → t ≡ runs 0 0x22 k dev → t ≡ true
+        → Reading h dev store room k (getD dev (slotPlace k + 2) 0) (qpRead (record { 0 = n }))
+    query-reading told holds =
+        reading 0 0x22 (request.Command (command.QueryQp (record { 0 = n }))) told holds (rw (← n-is) (query-found n 0 0 0 0 small))
+        record { reads = refl; record-is = refl; records-are = refl; bursts-are = refl }
+
+    pub joined-reading : {c e : ℕ} {t : Bool} → c ≡ le32 (slotPlace k + 12) dev → e ≡ le32 (slotPlace k + 16) dev → t ≡ runs 1 7 k dev
+        → t ≡ true
+        → Reading h dev store room k (getD dev (slotPlace k + 2) 0) (joinedRead (record { 0 = n }) (record { 0 = c }) (record { 0 = e }))
+    joined-reading {c = c} {e = e} c-is e-is told holds =
+        reading 1 7 (joinedRead (record { 0 = n }) (record { 0 = c }) (record { 0 = e })) told holds (rw (← n-is, ← c-is, ← e-is) (joined-found n c e _ _ small))
+        record { reads = refl; record-is = refl; records-are = refl; bursts-are = refl }
