@@ -1,8 +1,8 @@
 -- What the code asks of the memory and the room that it is lent, and what its calls leave.
-use mathlib.Core.Path.{_≡_, sym, _∙_, ap, subst}
+use mathlib.Core.Path.{_≡_, refl, sym, _∙_, ap, subst}
 use mathlib.Core.Bool.{true}
 use mathlib.Core.List.{List, [], _∷_}
-use Prim.Native.Nat.{ℕ, _+_, _-_, _%_, _≤_, _<_}
+use Prim.Native.Nat.{ℕ, _+_, _-_, _*_, _%_, _≤_, _<_}
 use native.Mathlib.Omega.{arith}
 use borrow.Author.Tests.{lt-ltb, le-ltb}
 use lib.ListN.{length, replicate}
@@ -16,14 +16,16 @@ use Rattle.context.specs.declared.QpNumber.{QpNumber}
 use Rattle.context.specs.declared.Record.{Record}
 use Rattle.context.specs.declared.Record.the-variants as rec
 use Rattle.checks.specs.declared.Verdict.{Verdict}
+use Rattle.requests.specs.declared.EngineRequest.the-variants as engine
 use Rattle.requests.specs.declared.Request.{Request}
+use Rattle.requests.specs.declared.Request.the-variants as request
 use Rattle.request_table.specs.Records.{listOf, holdsOf, recordOf, recordsOf, writesOf}
 use Rattle.request_table.specs.declared.Records.{Records}
 use Rattle.request_table.specs.declared.Records.the-variants as records
 use Rattle.mailboxes.specs.Mailboxes.{needOf}
 use Rattle.burst_table.specs.Sizes.{burstSize, slotCount, slotRoom, roomSize, slotStart}
 use Rattle.burst_table.specs.Bursts.{joinedSize, totalOf, offsetOf}
-use Rattle.burst_table.specs.Laws.{offset-joined, offset-small, offset-room, need-small}
+use Rattle.burst_table.specs.Laws.{offset-joined, offset-small, offset-room, need-small, all-offset}
 use Rattle.checks.specs.Permission.{permissionOf}
 use Rattle.bursts.specs.Moves.{writeAt, copyAt}
 use Rattle.bursts.specs.Room.{frontOf, roomCopied}
@@ -44,6 +46,22 @@ pub record Moving (g : Logs) (store room : List ℕ) (k : ℕ) (q : Request) (m 
   pub below : k < slotCount
   pub roomed : roomSize ≤ length room
 
+-- the requests that read all of a queue pair's record, and all of three records, whose burst m stands at m bursts
+abbrev pub qpRead : QpNumber → Request
+qpRead n = request.Engine (engine.ReadAll n)
+
+abbrev pub joinedRead : QpNumber → CqNumber → EqNumber → Request
+joinedRead n c e = request.Engine (engine.ReadJoined n c e)
+
+module _ {g : Logs} {store room : List ℕ} {k m : ℕ} {n : QpNumber} where
+  pub qp-offset : Moving g store room k (qpRead n) m → m * burstSize ≡ offsetOf (qpRead n) m
+  qp-offset moving = all-offset (engine.ReadAll n) (engine.ReadAll n) m _ refl refl (moving .more) refl
+
+  pub joined-offset : {c : CqNumber} {e : EqNumber} → Moving g store room k (joinedRead n c e) m
+      → m * burstSize ≡ offsetOf (joinedRead n c e) m
+  joined-offset {c = c} {e = e} moving =
+      all-offset (engine.ReadJoined n c e) (engine.ReadJoined n c e) m _ refl refl (moving .more) refl
+
 -- ---- what the leaves ask
 
 module _ (g : Logs) (store room : List ℕ) (k : ℕ) (q : Request) (m : ℕ) (moving : Moving g store room k q m) (first : ℕ)
@@ -58,12 +76,8 @@ module _ (g : Logs) (store room : List ℕ) (k : ℕ) (q : Request) (m : ℕ) (m
   pub first-aligned : first % burstSize ≡ 0
   first-aligned = omega (arith, offset-is)
 
-  module _ (base : ℕ) (base-is : base ≡ slotStart k) where
-    pub front-inside : base + needOf q ≤ length room
-    front-inside = omega (arith, need-small q, moving .below, moving .roomed)
-
-    pub copy-inside : base + first + burstSize ≤ length room
-    copy-inside = omega (arith, offset-room q m (moving .more), moving .below, moving .roomed)
+  pub front-inside : (base : ℕ) → base ≡ slotStart k → base + needOf q ≤ length room
+  front-inside base base-is = omega (arith, need-small q, moving .below, moving .roomed)
 
   -- ---- of a write
 
@@ -86,16 +100,19 @@ module _ (g : Logs) (store room : List ℕ) (k : ℕ) (q : Request) (m : ℕ) (m
   -- ---- of a read
 
   module _ (from : ℕ) (from-is : from ≡ placeIn g (recordsOf q) first) where
-    pub read-stored : from + burstSize ≤ length store
+    read-stored : from + burstSize ≤ length store
     read-stored =
         omega (arith, rw offset-is at from-is, read-inside g (memory store) q m (moving .all) (moving .more), moving .stored .fits)
 
-    pub read-leaves : (base : ℕ) → base ≡ slotStart k → (out : List ℕ) → out ≡ copyAt from store (base + first) room
+    pub copy-asks : (from + burstSize ≤ length store) × ((k < slotCount) × (slotStart k + first + burstSize ≤ length room))
+    copy-asks = (read-stored, (moving .below, omega (arith, offset-room q m (moving .more), moving .below, moving .roomed)))
+
+    pub read-leaves : (out : List ℕ) → out ≡ copyAt from store (slotStart k + first) room
         → out ≡ roomCopied k (offsetOf q m) (readOut g (memory store) q m) room
     unfolding roomCopied copyAt
-    read-leaves base base-is out z =
+    read-leaves out z =
         z
-        ∙ rw (from-is, offset-is, base-is)
+        ∙ rw (from-is, offset-is)
         (ap (λ (ys : List ℕ). splice (slotStart k + offsetOf q m) ys room)
         (sym (read-place g (memory store) q m (moving .stored .fits) (moving .all) (moving .more))))
 
@@ -134,6 +151,18 @@ pub one-place : (g : Logs) (X : Record) (first at : ℕ) → at ≡ recordAt g X
     → at + first ≡ placeIn g (X ∷ []) first
 unfolding placeIn
 one-place g X first at e h = rw (lt-ltb first (recordSize X) (omega arith), e)
+
+-- in the one that is read whole
+module _ {g : Logs} {store room : List ℕ} {k m : ℕ} {n : QpNumber} (moving : Moving g store room k (qpRead n) m) (at : ℕ)
+    (is : at ≡ recordAt g (rec.Qp n)) where
+  burst-in : m * burstSize + burstSize ≤ recordSize (rec.Qp n)
+  burst-in = omega (arith, first-joined g store room k (qpRead n) m moving (m * burstSize) (qp-offset moving))
+
+  pub qp-small : at + m * burstSize ≤ 9439232
+  qp-small = omega (arith, record-small g (rec.Qp n) (moving .stored .ranges) (moving .stored .valid), burst-in)
+
+  pub qp-from : at + m * burstSize ≡ placeIn g (recordsOf (qpRead n)) (m * burstSize)
+  qp-from = one-place g (rec.Qp n) (m * burstSize) at is burst-in
 
 -- in the first, the second or the third of three
 module _ (g : Logs) (n : QpNumber) (c : CqNumber) (e : EqNumber) (first at : ℕ) where

@@ -1,5 +1,6 @@
 // The lent memory: one burst is written or read, a record is judged, a name in one is read, and all
 // records are made zero. No other crate looks for a record in it. The callers have tested what is asked.
+use burst_table::BURST;
 use checks::Verdict;
 use context::CqNumber;
 use context::EqNumber;
@@ -11,17 +12,19 @@ use requests::Request;
 ghost use mathlib.Core.Path.{_≡_};
 ghost use mathlib.Core.Bool.{true};
 ghost use Prim.Native.Nat.{_+_, _≤_, _<_};
+ghost use lib.ListN.{length};
 ghost use Rattle.context.specs.Layout.{rangesHold, isRecord, recordAt};
 ghost use Rattle.context.specs.declared.Record.the-variants.{Qp, Cq};
 ghost use Rattle.request_table.specs.Records.{listOf, recordOf, writesOf};
 ghost use Rattle.request_table.specs.declared.Records.the-variants.{Three};
-ghost use Rattle.burst_table.specs.Sizes.{burstSize};
+ghost use Rattle.burst_table.specs.Sizes.{burstSize, slotCount, slotStart};
 ghost use Rattle.burst_table.specs.Bursts.{joinedSize, offsetOf};
 ghost use Rattle.checks.specs.Fields.{cqNamed, eqNamed};
+ghost use Rattle.bursts.specs.Moves.{copyAt};
 ghost use Rattle.bursts.specs.Room.{frontOf, roomCopied};
 ghost use Rattle.records.specs.Memory.{memory, recordIn, AllRecords, Fits, placeIn, written, readOut};
 ghost use Rattle.records.specs.Memory.{permissionIn, zeroed};
-ghost use Rattle.records.specs.Calls.{Stored, Moving};
+ghost use Rattle.records.specs.Calls.{Stored, Moving, qpRead, joinedRead};
 
 // Where a request's record starts in the memory.
 fn record_place(logs: Logs, request: Request) -> usize
@@ -76,6 +79,17 @@ fn burst_place(logs: Logs, records: Records, first: usize) -> usize
     }
 }
 
+// Copies the burst at `from` of the memory to `first` of slot k's part of the room.
+fn copy_burst(store: &[u8], from: usize, room: &mut [u8], k: usize, first: usize)
+    requires { ⌜ from + burstSize ≤ length (now store) ⌝ }
+    requires { ⌜ k < slotCount ⌝ }
+    requires { ⌜ slotStart k + first + burstSize ≤ length (now room) ⌝ }
+    ensures { λ _. ⌜ now (room .exit) ≡ copyAt from (now (store .entry)) (slotStart k + first) (now (room .entry)) ⌝ }
+{
+    let to = burst_table::slot_start(k) + first;
+    bursts::read_at(store, from, room, to);
+}
+
 // Moves burst m of slot k's request, a read: that burst of its records is copied to its offset in the
 // slot's part of the room.
 pub fn read_burst(logs: Logs, store: &[u8], room: &mut [u8], k: usize, request: Request, m: u8)
@@ -85,8 +99,39 @@ pub fn read_burst(logs: Logs, store: &[u8], room: &mut [u8], k: usize, request: 
 {
     let first = burst_table::offset(request, m);
     let from = burst_place(logs, record_lists::records_of(request), first);
-    let to = burst_table::slot_start(k) + first;
-    bursts::read_at(store, from, room, to);
+    copy_burst(store, from, room, k, first);
+}
+
+// Burst m of a read of all of queue pair n's record. A caller that knows what is read need build no
+// request.
+pub fn read_qp_burst(logs: Logs, store: &[u8], room: &mut [u8], k: usize, n: QpNumber, m: u8)
+    requires { ⌜ Moving logs (now store) (now room) k (qpRead n) m ⌝ }
+    ensures { λ _. ⌜ now (room .exit)
+        ≡ roomCopied k (offsetOf (qpRead n) m) (readOut logs (memory (now (store .entry))) (qpRead n) m) (now (room .entry)) ⌝ }
+{
+    let first = m as usize * BURST;
+    let from = store_tables::record_at(logs, Record::Qp(n)) + first;
+    copy_burst(store, from, room, k, first);
+}
+
+// Burst m of a joined read.
+pub fn read_joined_burst(
+    logs: Logs,
+    store: &[u8],
+    room: &mut [u8],
+    k: usize,
+    n: QpNumber,
+    c: CqNumber,
+    e: EqNumber,
+    m: u8,
+)
+    requires { ⌜ Moving logs (now store) (now room) k (joinedRead n c e) m ⌝ }
+    ensures { λ _. ⌜ now (room .exit)
+        ≡ roomCopied k (offsetOf (joinedRead n c e) m) (readOut logs (memory (now (store .entry))) (joinedRead n c e) m) (now (room .entry)) ⌝ }
+{
+    let first = m as usize * BURST;
+    let from = three_place(logs, n, c, e, first);
+    copy_burst(store, from, room, k, first);
 }
 
 // Whether a request's record permits it.

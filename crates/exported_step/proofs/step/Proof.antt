@@ -24,8 +24,8 @@ returns-2 c = left-past _ _ _ _ _ (c .before .before .refusal .ensures) (c .befo
 read-hca-requires : tie.Need-read-hca-requires
 read-hca-requires c κs = passed-sized _ _ _ _ (c .before .before .before .refusal .ensures) (c .before .before .if1 .left)
 
-step-slot-requires : tie.Need-step-slot-requires
-step-slot-requires c κs =
+step-bytes-requires : tie.Need-step-bytes-requires
+step-bytes-requires c κs =
     ready _ _ _ _ _ _ (c .before .before .before .before .before .before .before .refusal .ensures) (c .before .before .before .before .before .before .if1 .left) (c .before .before .before .read-hca .ensures)
     (omega (arith, c .before .before .before .before .before .if2 .left))
 
@@ -39,7 +39,7 @@ same-length-5 : tie.Need-same-length-5
 same-length-5 c = search needs
 
 returns-3 : tie.Need-returns-3
-returns-3 c = left-stepped _ _ _ _ _ (c .before .before .before .before .before .before .before .before .before .before .before .before .before .before .refusal .ensures) (c .before .before .before .before .before .before .before .before .before .before .before .before .before .if1 .left) _ _ _ _ (c .before .before .before .before .before .before .step-slot .ensures)
+returns-3 c = left-stepped _ _ _ _ _ (c .before .before .before .before .before .before .before .before .before .before .before .before .before .before .refusal .ensures) (c .before .before .before .before .before .before .before .before .before .before .before .before .before .if1 .left) _ _ _ _ (c .before .before .before .before .before .before .step-bytes .ensures)
 
 pub step-spec : {M : Type 1} → statement M
 step-spec =
@@ -51,7 +51,7 @@ step-spec =
     same-length-2
     returns-2
     read-hca-requires
-    step-slot-requires
+    step-bytes-requires
     same-length-3
     same-length-4
     same-length-5
