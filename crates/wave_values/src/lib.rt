@@ -1,4 +1,4 @@
-// What waves show of a slot: eight numbers, one for each of its signals; and how many records it holds.
+// What waves show of a slot: eight numbers, one for each of its signals; and how many holds it has.
 use context::Record;
 use requests::EngineRequest;
 use requests::Request;

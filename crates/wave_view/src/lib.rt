@@ -15,7 +15,7 @@ const OPEN: usize = 0;
 
 const COUNTS: usize = 1;
 
-// Records that are held, by readers and by writers.
+// Holds of readers and of writers: each request has one on each of its records.
 const READERS: usize = 5;
 
 const WRITERS: usize = 6;
