@@ -1,8 +1,9 @@
 # `make demo` shows the model at work on a sample script, without proving anything; `make replay` proves and builds the program that ran
 # it; `make test` runs all tests, the same as the gate; `make clients` runs the programs in C and Rust that use the library;
 # `make vm` boots Linux in QEMU with the adapter in it and tests that; `make vm-shell DRIVER=my.ko` boots it with a driver of one's own;
+# `make waves` writes the waves of two sample scripts, and `make waves-check` has GTKWave read them and makes docs/waves.png;
 # `make speed` measures the library against plain Rust; `make install` puts the library, its header and its pkg-config file under PREFIX.
-.PHONY: demo replay test speed clients vm vm-setup vm-shell install kit
+.PHONY: demo replay test speed clients vm vm-setup vm-shell waves waves-check install kit
 SHELL := bash
 PREFIX ?= /usr/local
 VERSION := 4.0.0
@@ -44,6 +45,12 @@ install: $(LIBRARY)
 	@printf '%s\n' 'prefix=$(PREFIX)' 'includedir=$${prefix}/include' 'libdir=$${prefix}/lib' '' 'Name: ecgslope' \
 	    'Description: A proved software model of the control side of the JingZhao RDMA adapter' 'Version: $(VERSION)' \
 	    'Cflags: -I$${includedir}' 'Libs: -L$${libdir} -lecgslope' > $(DESTDIR)$(PREFIX)/lib/pkgconfig/ecgslope.pc
+
+waves: kit
+	@tools/waves
+
+waves-check: kit
+	@tools/waves-check
 
 # Proved and built only where it is missing: after a change, `rt staticlib ecgslope` brings it up to date.
 target/staticlib/libecgslope.a:

@@ -126,6 +126,10 @@ def main():
                 for name in sorted(asking(path))
                 if (f"{crate}/src", name) not in listed_there
             ]
+    # A program's input is no link, so a sample that two programs run stands twice.
+    for one, other in (("replay", "waves"), ("replay_holds", "waves_holds")):
+        if text_of(f"crates/{one}/stdin") != text_of(f"crates/{other}/stdin"):
+            wrong.append(f"crates/{one}/stdin and crates/{other}/stdin are one sample, and differ")
     for line in wrong:
         print(line, file=sys.stderr)
     sys.exit(1 if wrong else 0)

@@ -35,7 +35,8 @@ pub fn run_line(session: Session, line: &[u8], store: &mut [u8], room: &mut [u8]
     match script_keywords::read_keyword(script_words::word(line, 0)) {
         Keyword::Call(call) => run_call(call, session, line, store, room),
         Keyword::Memory(memory) => {
-            let lending = script_memory::run(memory, session.lent, line, store, room);
+            let answers = session.answers;
+            let lending = script_memory::run(memory, session.lent, line, store, room, answers);
             script_session::relend(session, lending)
         }
         Keyword::Device(device) => run_device(device, session, line),

@@ -46,8 +46,8 @@ fn kept(lent: Lent, good: bool) -> Lending {
 }
 
 // Other lengths are lent.
-fn changed(lent: Lent) -> Lending {
-    script_print::ok();
+fn changed(lent: Lent, answers: bool) -> Lending {
+    script_print::ok(answers);
     Lending {
         good: true,
         anew: false,
@@ -56,7 +56,7 @@ fn changed(lent: Lent) -> Lending {
 }
 
 // `lend N B`, where N is at most the bytes that the program has.
-fn lend(lent: Lent, line: &[u8], store: &mut [u8], room: &mut [u8]) -> Lending {
+fn lend(lent: Lent, line: &[u8], store: &mut [u8], room: &mut [u8], answers: bool) -> Lending {
     let read = script_lines::numbers(line, 1, 2);
     let there = read.at[0] as usize;
     let value = read.at[1];
@@ -72,7 +72,7 @@ fn lend(lent: Lent, line: &[u8], store: &mut [u8], room: &mut [u8]) -> Lending {
     let n = room.len();
     words::fill(store, 0, there, value as u8);
     words::fill(room, 0, n, value as u8);
-    script_print::ok();
+    script_print::ok(answers);
     Lending {
         good: true,
         anew: true,
@@ -94,37 +94,37 @@ fn only_number(line: &[u8], most: usize) -> NumberFound {
 }
 
 // `rowlen N`.
-fn row_length(lent: Lent, line: &[u8]) -> Lending {
+fn row_length(lent: Lent, line: &[u8], answers: bool) -> Lending {
     let NumberFound::Number(n) = only_number(line, 9) else {
         return kept(lent, false);
     };
     let mut next = lent;
     next.row = n as usize;
-    changed(next)
+    changed(next, answers)
 }
 
 // `roomlen N`.
-fn room_length(lent: Lent, line: &[u8]) -> Lending {
+fn room_length(lent: Lent, line: &[u8], answers: bool) -> Lending {
     let NumberFound::Number(n) = only_number(line, ROOM) else {
         return kept(lent, false);
     };
     let mut next = lent;
     next.room = n as usize;
-    changed(next)
+    changed(next, answers)
 }
 
 // `storelen N`.
-fn store_length(lent: Lent, line: &[u8]) -> Lending {
+fn store_length(lent: Lent, line: &[u8], answers: bool) -> Lending {
     let NumberFound::Number(n) = only_number(line, lent.there) else {
         return kept(lent, false);
     };
     let mut next = lent;
     next.store = n as usize;
-    changed(next)
+    changed(next, answers)
 }
 
 // Puts the bytes that a word stands for from `at` on, if they are within what is there.
-fn put(bytes: &mut [u8], at: usize, word: &[u8]) -> bool {
+fn put(bytes: &mut [u8], at: usize, word: &[u8], answers: bool) -> bool {
     let BytesFound::Bytes(n) = script_bytes::count(word) else {
         return false;
     };
@@ -136,12 +136,12 @@ fn put(bytes: &mut [u8], at: usize, word: &[u8]) -> bool {
     }
     let end = at + n;
     script_bytes::fill(word, &mut bytes[at..end]);
-    script_print::ok();
+    script_print::ok(answers);
     true
 }
 
 // `poke store OFF BYTES` and `poke room OFF BYTES`: whether it is a line of the format.
-fn poke(there: usize, line: &[u8], store: &mut [u8], room: &mut [u8]) -> bool {
+fn poke(there: usize, line: &[u8], store: &mut [u8], room: &mut [u8], answers: bool) -> bool {
     if script_words::words(line) != 4 {
         return false;
     }
@@ -152,16 +152,16 @@ fn poke(there: usize, line: &[u8], store: &mut [u8], room: &mut [u8]) -> bool {
     let bytes = script_words::word(line, 3);
     if script_words::same(script_words::word(line, 1), b"store") {
         let n = front(there, store);
-        return put(&mut store[..n], at as usize, bytes);
+        return put(&mut store[..n], at as usize, bytes, answers);
     }
     if script_words::same(script_words::word(line, 1), b"room") {
-        return put(room, at as usize, bytes);
+        return put(room, at as usize, bytes, answers);
     }
     false
 }
 
 // Prints `n` bytes from `at` on, if they are within what is there.
-fn tell(bytes: &[u8], at: usize, n: usize) -> bool {
+fn tell(bytes: &[u8], at: usize, n: usize, answers: bool) -> bool {
     if bytes.len() < at {
         return false;
     }
@@ -169,13 +169,15 @@ fn tell(bytes: &[u8], at: usize, n: usize) -> bool {
         return false;
     }
     let end = at + n;
-    script_print::bytes(&bytes[at..end]);
-    script_print::end();
+    if answers {
+        script_print::bytes(&bytes[at..end]);
+        script_print::end();
+    }
     true
 }
 
 // `peek store OFF LEN` and `peek room OFF LEN`: whether it is a line of the format.
-fn peek(there: usize, line: &[u8], store: &[u8], room: &[u8]) -> bool {
+fn peek(there: usize, line: &[u8], store: &[u8], room: &[u8], answers: bool) -> bool {
     let read = script_lines::numbers(line, 2, 2);
     let at = read.at[0] as usize;
     let n = read.at[1] as usize;
@@ -184,18 +186,21 @@ fn peek(there: usize, line: &[u8], store: &[u8], room: &[u8]) -> bool {
     }
     if script_words::same(script_words::word(line, 1), b"store") {
         let m = front(there, store);
-        return tell(&store[..m], at, n);
+        return tell(&store[..m], at, n, answers);
     }
     if script_words::same(script_words::word(line, 1), b"room") {
-        return tell(room, at, n);
+        return tell(room, at, n, answers);
     }
     false
 }
 
 // `digest`: whether it is a line of the format.
-fn digest(there: usize, line: &[u8], store: &[u8], room: &[u8]) -> bool {
+fn digest(there: usize, line: &[u8], store: &[u8], room: &[u8], answers: bool) -> bool {
     if script_words::words(line) != 1 {
         return false;
+    }
+    if !answers {
+        return true;
     }
     let n = front(there, store);
     script_print::text(b"store ");
@@ -207,15 +212,22 @@ fn digest(there: usize, line: &[u8], store: &[u8], room: &[u8]) -> bool {
 }
 
 // Runs a line on memory, of which this much is lent.
-pub fn run(memory: Memory, lent: Lent, line: &[u8], store: &mut [u8], room: &mut [u8]) -> Lending {
+pub fn run(
+    memory: Memory,
+    lent: Lent,
+    line: &[u8],
+    store: &mut [u8],
+    room: &mut [u8],
+    answers: bool,
+) -> Lending {
     let there = lent.there;
     match memory {
-        Memory::Lend => lend(lent, line, store, room),
-        Memory::RowLength => row_length(lent, line),
-        Memory::RoomLength => room_length(lent, line),
-        Memory::StoreLength => store_length(lent, line),
-        Memory::Poke => kept(lent, poke(there, line, store, room)),
-        Memory::Peek => kept(lent, peek(there, line, store, room)),
-        Memory::Digest => kept(lent, digest(there, line, store, room)),
+        Memory::Lend => lend(lent, line, store, room, answers),
+        Memory::RowLength => row_length(lent, line, answers),
+        Memory::RoomLength => room_length(lent, line, answers),
+        Memory::StoreLength => store_length(lent, line, answers),
+        Memory::Poke => kept(lent, poke(there, line, store, room, answers)),
+        Memory::Peek => kept(lent, peek(there, line, store, room, answers)),
+        Memory::Digest => kept(lent, digest(there, line, store, room, answers)),
     }
 }

@@ -18,13 +18,22 @@ pub struct Session {
     pub good: bool,
     // How many lines there were.
     pub lines: u64,
+    // Whether each line's answer is printed.
+    pub answers: bool,
     // The part of the input's buffer that was read and not yet run.
     pub from: usize,
     pub to: usize,
 }
 
 // After a call, or before the first.
-pub fn after_call(hca: Hca, row: [Slot; 9], lent: Lent, why: Cause, lines: u64) -> Session {
+pub fn after_call(
+    hca: Hca,
+    row: [Slot; 9],
+    lent: Lent,
+    why: Cause,
+    lines: u64,
+    answers: bool,
+) -> Session {
     Session {
         hca: hca,
         row: row,
@@ -32,19 +41,21 @@ pub fn after_call(hca: Hca, row: [Slot; 9], lent: Lent, why: Cause, lines: u64) 
         why: why,
         good: true,
         lines: lines,
+        answers: answers,
         from: 0,
         to: 0,
     }
 }
 
 // A fresh device, all of whose slots are free.
-pub fn begin(lent: Lent, lines: u64) -> Session {
+pub fn begin(lent: Lent, lines: u64, answers: bool) -> Session {
     after_call(
         start::closed_state(),
         start::nine_free(),
         lent,
         Cause::None,
         lines,
+        answers,
     )
 }
 
@@ -59,7 +70,7 @@ pub fn after(session: Session, good: bool) -> Session {
 pub fn relend(session: Session, lending: Lending) -> Session {
     let lent = lending.lent;
     if lending.anew {
-        return begin(lent, session.lines);
+        return begin(lent, session.lines, session.answers);
     }
     let mut next = session;
     next.lent = lent;
@@ -72,7 +83,7 @@ pub fn state(session: Session, line: &[u8]) -> Session {
     let StateFound::State(hca) = script_states::read_state(line) else {
         return after(session, false);
     };
-    script_print::ok();
+    script_print::ok(session.answers);
     let mut next = session;
     next.hca = hca;
     next
@@ -97,7 +108,7 @@ pub fn slot(session: Session, line: &[u8]) -> Session {
     let SlotFound::Slot(slot) = script_device::read_slot(line) else {
         return after(session, false);
     };
-    script_print::ok();
+    script_print::ok(session.answers);
     with_slot(session, k as usize, slot)
 }
 
@@ -109,7 +120,9 @@ pub fn show(session: Session, line: &[u8]) -> Session {
     let lent = session.lent;
     let hca = session.hca;
     let row = session.row;
-    script_show::show(hca, row, lent.row);
+    if session.answers {
+        script_show::show(hca, row, lent.row);
+    }
     session
 }
 
@@ -119,6 +132,8 @@ pub fn why(session: Session, line: &[u8]) -> Session {
         return after(session, false);
     }
     let cause = session.why;
-    script_causes::print_cause(cause);
+    if session.answers {
+        script_causes::print_cause(cause);
+    }
     session
 }

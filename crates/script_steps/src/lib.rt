@@ -1,5 +1,6 @@
 // A script's steps, collections and resets.
 use rules::CollectAnswer;
+use rules::ResetAnswer;
 use rules::StepAnswer;
 use script_bytes::front;
 use script_print::end;
@@ -13,7 +14,10 @@ use script_session::after_call;
 // The bytes that a collection's buffer has before.
 const UNTOUCHED: u8 = 0xee;
 
-fn print_step(answer: StepAnswer) {
+fn print_step(answer: StepAnswer, answers: bool) {
+    if !answers {
+        return;
+    }
     hexadecimal(numbers_returned::step_number(answer) as u64);
     match answer {
         StepAnswer::Left(n) => {
@@ -25,7 +29,10 @@ fn print_step(answer: StepAnswer) {
     }
 }
 
-fn print_collect(answer: CollectAnswer, buffer: &[u8]) {
+fn print_collect(answer: CollectAnswer, buffer: &[u8], answers: bool) {
+    if !answers {
+        return;
+    }
     hexadecimal(numbers_returned::collect_number(answer) as u64);
     match answer {
         CollectAnswer::Collected(n) => more(n as u64),
@@ -33,6 +40,14 @@ fn print_collect(answer: CollectAnswer, buffer: &[u8]) {
     }
     text(b" ");
     script_print::bytes(buffer);
+    end();
+}
+
+fn print_reset(answer: ResetAnswer, answers: bool) {
+    if !answers {
+        return;
+    }
+    hexadecimal(numbers_returned::reset_number(answer) as u64);
     end();
 }
 
@@ -50,9 +65,16 @@ pub fn step(session: Session, line: &[u8], store: &mut [u8], room: &mut [u8]) ->
     let m = front(lent.room, room);
     let done = adapter_fronts::step_front(hca, row, lent.row, &mut store[..n], &mut room[..m], k);
     let answer = done.answer;
-    print_step(answer);
+    print_step(answer, session.answers);
     let row = done.row;
-    after_call(hca, row, lent, call_causes::of_step(answer), session.lines)
+    after_call(
+        hca,
+        row,
+        lent,
+        call_causes::of_step(answer),
+        session.lines,
+        session.answers,
+    )
 }
 
 // Collects slot k into a buffer.
@@ -78,7 +100,7 @@ fn collect_into(
         buffer,
     );
     let answer = done.answer;
-    print_collect(answer, buffer);
+    print_collect(answer, buffer, session.answers);
     let row = done.row;
     after_call(
         hca,
@@ -86,6 +108,7 @@ fn collect_into(
         lent,
         call_causes::of_collect(answer),
         session.lines,
+        session.answers,
     )
 }
 
@@ -118,9 +141,15 @@ pub fn reset(session: Session, line: &[u8], store: &[u8], room: &[u8]) -> Sessio
     let done = adapter_fronts::reset_front(hca, row, lent.row, &store[..n], &room[..m]);
     let reply = done.reply;
     let answer = reply.answer;
-    hexadecimal(numbers_returned::reset_number(answer) as u64);
-    end();
+    print_reset(answer, session.answers);
     let row = done.row;
     let hca = reply.hca;
-    after_call(hca, row, lent, call_causes::of_reset(answer), session.lines)
+    after_call(
+        hca,
+        row,
+        lent,
+        call_causes::of_reset(answer),
+        session.lines,
+        session.answers,
+    )
 }

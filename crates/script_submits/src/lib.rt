@@ -12,7 +12,10 @@ use script_session::Session;
 use script_session::after;
 use script_session::after_call;
 
-fn print_submit(answer: SubmitAnswer) {
+fn print_submit(answer: SubmitAnswer, answers: bool) {
+    if !answers {
+        return;
+    }
     hexadecimal(numbers_returned::submit_number(answer) as u64);
     match answer {
         SubmitAnswer::Done => end(),
@@ -26,13 +29,20 @@ fn print_submit(answer: SubmitAnswer) {
 }
 
 // What a submission leaves.
-fn submitted(lent: Lent, lines: u64, done: SubmittedFront) -> Session {
+fn submitted(lent: Lent, lines: u64, answers: bool, done: SubmittedFront) -> Session {
     let reply = done.reply;
     let answer = reply.answer;
-    print_submit(answer);
+    print_submit(answer, answers);
     let row = done.row;
     let hca = reply.hca;
-    after_call(hca, row, lent, call_causes::of_submit(answer), lines)
+    after_call(
+        hca,
+        row,
+        lent,
+        call_causes::of_submit(answer),
+        lines,
+        answers,
+    )
 }
 
 // `engine NUMBER INDEX PSN STATE`.
@@ -56,6 +66,7 @@ pub fn engine(session: Session, line: &[u8], store: &mut [u8], room: &mut [u8]) 
     submitted(
         lent,
         session.lines,
+        session.answers,
         adapter_front_submits::engine_front(
             hca,
             row,
@@ -86,6 +97,7 @@ fn submit_command(
     submitted(
         lent,
         session.lines,
+        session.answers,
         adapter_front_submits::command_front(
             hca,
             row,

@@ -19,7 +19,7 @@ after-requires : tie.Need-after-requires
 after-requires c κs = search needs
 
 same-length : tie.Need-same-length
-same-length c = search needs
+same-length c = c .before .before .before .before .before .before .before .before .before .before .before .before .buffer .given
 
 same-length-2 : tie.Need-same-length-2
 same-length-2 c = search needs
@@ -46,7 +46,7 @@ keep-requires : tie.Need-keep-requires
 keep-requires c κs = search needs
 
 same-length-4 : tie.Need-same-length-4
-same-length-4 c = c .before .before .before .before .before .before .before .before .before .before .before .before .before .buffer .given
+same-length-4 c = c .before .before .before .before .before .before .before .before .before .before .before .before .before .before .buffer .given
 
 same-length-5 : tie.Need-same-length-5
 same-length-5 c = search needs

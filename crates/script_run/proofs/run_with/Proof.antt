@@ -1,10 +1,10 @@
--- `script_run::run` is safe and ends.
+-- `script_run::run_with` is safe and ends.
 use mathlib.Core.Path.{_≡_, sym}
 use Prim.Native.Nat.{ℕ}
 use lib.ListN.{length, replicate, length-replicate}
 use borrow.Author.Needs.{needs}
-use Rattle.script_run.proofs.run.Statement.{statement}
-use Rattle.script_run.proofs.run.Tie as tie
+use Rattle.script_run.proofs.run_with.Statement.{statement}
+use Rattle.script_run.proofs.run_with.Tie as tie
 
 -- the length of a repeat, at any number: at 1,048,960 itself `search` would count
 repeated : (n a : ℕ) → n ≡ length (replicate n a)
@@ -28,8 +28,8 @@ run-through-requires c κs = search needs
 returns : tie.Need-returns
 returns c = search needs
 
-pub run-spec : {M : Type 1} → statement M
-run-spec =
+pub run-with-spec : {M : Type 1} → statement M
+run-with-spec =
     tie.close
     (tie.spec
     large-buffer-requires

@@ -1,0 +1,2 @@
+-- What waves show of a slot.
+pub mod Values
