@@ -143,7 +143,7 @@ fn put_line(view: &mut [u64; 80], code: u64, why: Cause) {
         return;
     }
     view[RETURNED] = returned(why);
-    view[ROW] = wave_names::row_code(why);
+    view[ROW] = wave_codes::row_code(why);
 }
 
 fn print_value(i: usize, value: u64) {
@@ -234,7 +234,7 @@ pub fn after_line(
     line: u64,
     seen: &mut [u64; 80],
 ) {
-    let code = wave_names::line_code(keyword);
+    let code = wave_codes::line_code(keyword);
     if code == 0 {
         return;
     }

@@ -1,0 +1,2 @@
+-- What waves tell by a number.
+pub mod Codes
