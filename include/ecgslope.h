@@ -88,10 +88,10 @@ enum ecgslope_op {
     ECGSLOPE_RTR2RTS_QP = 0x1b,
     ECGSLOPE_RTS2RTS_QP = 0x1c,
     ECGSLOPE_SQE2RTS_QP = 0x1d,
-    ECGSLOPE_2ERR_QP = 0x1e, /* op_modifier 3 */
+    ECGSLOPE_2ERR_QP = 0x1e, /* op_modifier 3; from any state but RESET and ERR */
     ECGSLOPE_RTS2SQD_QP = 0x1f,
     ECGSLOPE_SQD2RTS_QP = 0x20,
-    ECGSLOPE_2RST_QP = 0x21, /* op_modifier 3 */
+    ECGSLOPE_2RST_QP = 0x21, /* op_modifier 3; from any state but RESET */
     ECGSLOPE_QUERY_QP = 0x22,
     ECGSLOPE_RESIZE_CQ = 0x2c,
     ECGSLOPE_INIT2INIT_QP = 0x2d,

@@ -112,6 +112,7 @@ static void queue_pair_up(void)
 {
     memset(mailbox, 0, sizeof mailbox); /* service type 0: RC */
     put(0x70, CQ);                      /* the completion queue of its send queue */
+    on_qp("2ERR_QP 5, still in RESET", ECGSLOPE_2ERR_QP, 3);
     on_qp("RST2INIT_QP 5", ECGSLOPE_RST2INIT_QP, 0);
     on_qp("RTR2RTS_QP 5, too early", ECGSLOPE_RTR2RTS_QP, 0);
 

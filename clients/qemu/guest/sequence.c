@@ -247,6 +247,7 @@ static void queue_pair_down(struct guest *guest)
     expect(guest, "RTS2RTS_QP 5, in ERR", command(guest, ECGSLOPE_RTS2RTS_QP, 0, QP), ECGSLOPE_NOT_PERMITTED);
     expect(guest, "2RST_QP 5", command(guest, ECGSLOPE_2RST_QP, 3, QP), ECGSLOPE_OK);
     memset(guest->record, 0, sizeof guest->record);
+    expect(guest, "2ERR_QP 5, in RESET", command(guest, ECGSLOPE_2ERR_QP, 3, QP), ECGSLOPE_NOT_PERMITTED);
     expect(guest, "the record: bytes that differ", differing(guest), 0);
 }
 

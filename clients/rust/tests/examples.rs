@@ -170,7 +170,7 @@ fn each_edge(side: Side) {
         (Op::Rts2Sqd, &[3], 5),
         (Op::Sqd2Sqd, &[5], 5),
         (Op::Sqd2Rts, &[5], 3),
-        (Op::ToErr, &[0, 1, 2, 3, 4, 5], 6),
+        (Op::ToErr, &[1, 2, 3, 4, 5], 6),
         (Op::ToReset, &[1, 2, 3, 4, 5, 6], 0),
     ];
     for (op, from, to) in table {

@@ -18,7 +18,8 @@ use Rattle.edges.specs.declared.EdgeVerdict.the-variants.{Permitted, Not
 abbrev pub is : State → ℕ → Bool
 is s code = eqb code (stateCode s)
 
--- From where each edge starts; the last two start at every state but the one that they lead to (01, Commands, the table of edges).
+-- From where each edge starts; the last two start at every state but the one that they lead to (01, Commands, the table of edges), and that
+-- to ERR not at RESET either, which software leaves for INIT alone (02, wish 1).
 abbrev pub fromOf : Edge → ℕ → Bool
 fromOf ResetToInit code = is Reset code
 fromOf InitToInit code = is Init code
@@ -29,7 +30,7 @@ fromOf SqeToRts code = is Sqe code
 fromOf RtsToSqd code = is Rts code
 fromOf SqdToSqd code = is Sqd code
 fromOf SqdToRts code = is Sqd code
-fromOf ToErr code = not (is Err code)
+fromOf ToErr code = both (not (is Reset code)) (not (is Err code))
 fromOf ToReset code = not (is Reset code)
 
 -- Where each edge leads (01, Commands, the table of edges).

@@ -104,7 +104,7 @@ fn starts_at(edge: Edge, code: u8) -> bool
         Edge::RtsToSqd => code == 3,
         Edge::SqdToSqd => code == 5,
         Edge::SqdToRts => code == 5,
-        Edge::ToErr => code != 6,
+        Edge::ToErr => code != 0 && code != 6,
         Edge::ToReset => code != 0,
     }
 }

@@ -232,7 +232,7 @@ fn uncollected() {
 }
 
 fn parameters() {
-    while_open(b"0x1e with op_modifier 3", command(0x1e, 0).modified(3), 0);
+    in_rtr(b"0x1e with op_modifier 3", command(0x1e, 7).modified(3), 0);
     while_open(b"0x1e with op_modifier 0", command(0x1e, 0), 3);
     while_open(b"NOP with in_modifier 1", command(0x31, 1), 3);
     in_rtr(b"request 3 with state 7", write(3, 7, 0, 7), 3);
@@ -345,6 +345,8 @@ fn joined_holds() {
 
 fn denials() {
     while_open(b"0x1a in RESET", command(0x1a, 0), 0x85);
+    while_open(b"0x1e in RESET", command(0x1e, 0).modified(3), 0x85);
+    while_open(b"0x21 in RESET", command(0x21, 0).modified(3), 0x85);
     while_open(b"request 3 in RESET", write(3, 0, 0, RTS), 0x85);
     while_open(b"SW2HW for MPT 0 of software", command(0x0d, 0), 0);
     while_open(b"HW2SW for MPT 0 of software", command(0x0f, 0), 0x85);

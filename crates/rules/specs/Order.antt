@@ -200,7 +200,7 @@ below87 =
     (asks 0x08 1 [] gets (3 ∷ [])
     ∷ command (hcrOf false 0x31 1 0) [] gets (3 ∷ [])
     ∷ command (hcrOf false 0x1e 0 0) [] gets (3 ∷ [])
-    ∷ command (hcrOf false 0x1e 3 0) [] gets (0 ∷ 0 ∷ [])
+    ∷ command (hcrOf false 0x1e 3 0) [] gets (0x85 ∷ [])
     ∷ command (hcrOf false 0x21 3 0) [] gets (0x85 ∷ [])
     ∷ asks 0x19 2 [] gets (3 ∷ [])
     ∷ asks 0x19 1 typed2 gets (3 ∷ [])

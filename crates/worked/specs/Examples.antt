@@ -17,7 +17,7 @@ use Rattle.context.specs.declared.Record.{Record}
 use Rattle.context.specs.declared.Record.the-variants as rec
 use Rattle.edges.specs.States.{stateCode, rc, uc, ud}
 use Rattle.edges.specs.declared.State.{State}
-use Rattle.edges.specs.declared.State.the-variants.{Rtr, Rts, Sqe}
+use Rattle.edges.specs.declared.State.the-variants.{Reset, Init, Rtr, Rts, Sqe}
 use Rattle.requests.specs.declared.PsnField.the-variants.{Expected}
 use Rattle.requests.specs.declared.EngineRequest.the-variants as engine
 use Rattle.requests.specs.declared.Request.{Request}
@@ -78,25 +78,26 @@ readBack (hcr.Command c) = c .op ∷ c .«op_modifier» ∷ []
 readBack hcr.Short = readAnswerNumber hcr.Short ∷ []
 readBack hcr.Malformed = readAnswerNumber hcr.Malformed ∷ []
 
--- the number that its submission gets, with an image that the edge to INIT accepts; queue pair 0 is in RESET
-abbrev pub submits : ℕ → ℕ
-submits w = submitNumber (submitCommand opened (register w) image .answer)
+-- a queue pair's record with a state, a service type and a word 84h
+abbrev pub qpWith : State → ℕ → ℕ → List ℕ
+qpWith s service w = stateCode s * 16 ∷ service ∷ replicate 0x82 0 ++ (beBytes 4 w ++ replicate 0x78 0)
+
+-- lent a store in which queue pair n has this record, all others being in RESET
+abbrev pub holding : ℕ → List ℕ → World
+holding n r = withMemory opened (memory (splice (recordAt logs (rec.Qp (record { 0 = n }))) r (opened .memory .store)))
+
+-- the number that its submission gets with queue pair 0 in that state, and with an image that the edge to INIT accepts
+abbrev pub submits : ℕ → State → ℕ
+submits w s = submitNumber (submitCommand (holding 0 (qpWith s rc 0)) (register w) image .answer)
 
 -- ---- an engine's write of an expected PSN to queue pair 5
 
 abbrev pub qp5 : Record
 qp5 = rec.Qp (record { 0 = 5 })
 
--- a queue pair's record with a state, a service type and a word 84h
-abbrev pub qpWith : State → ℕ → ℕ → List ℕ
-qpWith s service w = stateCode s * 16 ∷ service ∷ replicate 0x82 0 ++ (beBytes 4 w ++ replicate 0x78 0)
-
-abbrev pub holding : List ℕ → World
-holding r = withMemory opened (memory (splice (recordAt logs qp5) r (opened .memory .store)))
-
 -- request 5, lent a store with that record
 abbrev pub written : List ℕ → State → ℕ → Submitted
-written r to psn = submitEngine (holding r) 5 5 psn (stateCode to)
+written r to psn = submitEngine (holding 5 r) 5 5 psn (stateCode to)
 
 -- the number that it gets, by the record's state and type and the state to be written
 abbrev pub engineWrite : State → State → ℕ → ℕ
@@ -125,10 +126,11 @@ table =
     ∷ p 3 (recordAt logs qp5 ∷ []) (1280 ∷ [])
     ∷ p 4 (recordAt logs (rec.Cq (record { 0 = 3 })) ∷ []) (2240 ∷ [])
     ∷ p 5 (recordAt logs (rec.Mpt (record { 0 = 3 })) ∷ []) (2624 ∷ [])
-    -- op and op_modifier of two registers, whose submission is accepted; a bit that must be 0 is set, and reading and submission give 3
-    ∷ p 6 (readBack (readOf (register 0x00800019)) ++ submits 0x00800019 ∷ []) (0x19 ∷ 0 ∷ 0 ∷ [])
-    ∷ p 7 (readBack (readOf (register 0x0080301e)) ++ submits 0x0080301e ∷ []) (0x1e ∷ 3 ∷ 0 ∷ [])
-    ∷ p 8 (readBack (readOf (register 0x00900019)) ++ submits 0x00900019 ∷ []) (3 ∷ 3 ∷ [])
+    -- op and op_modifier of two registers: of the first the submission is accepted in RESET, of the second in INIT and not in RESET (02,
+    -- wish 1); a bit that must be 0 is set, and reading and submission give 3
+    ∷ p 6 (readBack (readOf (register 0x00800019)) ++ submits 0x00800019 Reset ∷ []) (0x19 ∷ 0 ∷ 0 ∷ [])
+    ∷ p 7 (readBack (readOf (register 0x0080301e)) ++ map (submits 0x0080301e) (Reset ∷ Init ∷ [])) (0x1e ∷ 3 ∷ 0x85 ∷ 0 ∷ [])
+    ∷ p 8 (readBack (readOf (register 0x00900019)) ++ submits 0x00900019 Reset ∷ []) (3 ∷ 3 ∷ [])
     -- an engine's write from RTR to SQE, whatever the type; from RTS to SQE for UD, and for RC
     ∷ p 9 (engineWrite Rtr Sqe rc ∷ engineWrite Rtr Sqe uc ∷ engineWrite Rtr Sqe ud ∷ []) (0x85 ∷ 0x85 ∷ 0x85 ∷ [])
     ∷ p 10 (engineWrite Rts Sqe ud ∷ []) (0 ∷ [])

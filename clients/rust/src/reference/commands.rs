@@ -119,7 +119,7 @@ impl Op {
         })
     }
 
-    /// Whether the edge starts in this state.
+    /// Whether the edge starts in this state; RESET is left for INIT alone (02, wish 1).
     #[inline]
     pub fn from(self, state: State) -> bool {
         match self {
@@ -129,7 +129,7 @@ impl Op {
             Op::Rts2Rts | Op::Rts2Sqd => state == State::Rts,
             Op::Sqe2Rts => state == State::Sqe,
             Op::Sqd2Sqd | Op::Sqd2Rts => state == State::Sqd,
-            Op::ToErr => state != State::Err,
+            Op::ToErr => !matches!(state, State::Reset | State::Err),
             Op::ToReset => state != State::Reset,
             _ => false,
         }

@@ -41,4 +41,5 @@ faults! {
     FULL_BEFORE_STATE = 25: "the full row is tested before the record's state",
     JOINED_NOT_HELD = 26: "request 7 does not hold its event queue",
     CLASH_UNJUDGED = 27: "running slots whose holds clash are not judged",
+    RESET_TO_ERR = 28: "0x1e is permitted from RESET",
 }

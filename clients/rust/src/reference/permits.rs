@@ -39,6 +39,7 @@ impl<const FAULT: u32> Hca<FAULT> {
             Op::Sw2HwMpt | Op::Sw2HwEq | Op::Sw2HwCq => !hardware(),
             Op::Hw2SwMpt | Op::Hw2SwEq | Op::Hw2SwCq | Op::ResizeCq => hardware(),
             _ => match State::from_code(state_code(record)) {
+                Some(State::Reset) if FAULT == fault::RESET_TO_ERR && op == Op::ToErr => true,
                 Some(state) => op.from(state),
                 None => FAULT == fault::CODE_ABOVE_SIX && op == Op::ToErr,
             },

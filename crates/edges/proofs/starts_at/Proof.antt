@@ -1,4 +1,6 @@
 -- `edges::starts_at` meets its contract.
+use Rattle.words.specs.Choice.{cases}
+use borrow.Author.Tests.{not-true, not-false}
 use borrow.Author.Needs.{needs}
 use Rattle.edges.proofs.starts_at.Statement.{statement}
 use Rattle.edges.proofs.starts_at.Tie as tie
@@ -64,10 +66,13 @@ returns-9 : tie.Need-returns-9
 returns-9 c = rw (c .enum-told9 .given .1)
 
 returns-10 : tie.Need-returns-10
-returns-10 c = rw (c .enum-told10 .given .1)
+returns-10 c = rw (c .before .enum-told10 .given .1) (search (cases, not-true, not-false) depth 8)
 
 returns-11 : tie.Need-returns-11
-returns-11 c = rw (c .enum-told11 .given .1)
+returns-11 c = rw (c .before .enum-told10 .given .1) (search (cases, not-true, not-false) depth 8)
+
+returns-12 : tie.Need-returns-12
+returns-12 c = rw (c .enum-told11 .given .1)
 
 pub starts-at-spec : {M : Type 1} → statement M
 starts-at-spec =
@@ -94,4 +99,5 @@ starts-at-spec =
     returns-8
     returns-9
     returns-10
-    returns-11)
+    returns-11
+    returns-12)
