@@ -2,8 +2,9 @@
 # it; `make test` runs all tests, the same as the gate; `make clients` runs the programs in C and Rust that use the library;
 # `make vm` boots Linux in QEMU with the adapter in it and tests that; `make vm-shell DRIVER=my.ko` boots it with a driver of one's own;
 # `make waves` writes the waves of two sample scripts, and `make waves-check` has GTKWave read them and makes docs/waves.png;
+# `make edges` proves and prints the table of edges;
 # `make speed` measures the library against plain Rust; `make install` puts the library, its header and its pkg-config file under PREFIX.
-.PHONY: demo replay test speed clients vm vm-setup vm-shell waves waves-check install kit
+.PHONY: demo replay edges test speed clients vm vm-setup vm-shell waves waves-check install kit
 SHELL := bash
 PREFIX ?= /usr/local
 VERSION := 4.0.0
@@ -17,6 +18,10 @@ demo: kit
 replay: kit
 	@set -o pipefail; rt check replay | grep --line-buffered '^rt: '
 	@echo 'target/bin/replay is proved and built. On a script of your own: target/bin/replay < my.script (README.md has the format)'
+
+edges: kit
+	@set -o pipefail; rt check print_edge_table | grep --line-buffered '^rt: '
+	@target/bin/print_edge_table
 
 test: kit
 	@bash .ci/run

@@ -1,6 +1,6 @@
 """Fails where the documents and the tree disagree: a crate that crates.txt, README.md or docs/CLAIMS.md
-leaves out, a name that a document gives and the file it gives it for does not have in public, or a public function with a
-`requires` that docs/DECISIONS.md does not list in 41.
+leaves out, a name that a document gives and the file it gives it for does not have in public, a public function with a
+`requires` that docs/DECISIONS.md does not list in 41, or a table of edges in README.md that is not the printed one.
 
 It is given as `crate/File: name, name`: File is `src` for the crate's src/*.rt, or else a module of its
 specs (`rules/Laws/Decided` is crates/rules/specs/Laws/Decided.antt)."""
@@ -130,6 +130,9 @@ def main():
     for one, other in (("replay", "waves"), ("replay_holds", "waves_holds")):
         if text_of(f"crates/{one}/stdin") != text_of(f"crates/{other}/stdin"):
             wrong.append(f"crates/{one}/stdin and crates/{other}/stdin are one sample, and differ")
+    printed = "".join(f"    {line}\n" for line in text_of("crates/print_edge_table/stdout").splitlines())
+    if f"\n\n{printed}\n" not in readme:
+        wrong.append("README.md does not show the table of edges as crates/print_edge_table/stdout has it")
     for line in wrong:
         print(line, file=sys.stderr)
     sys.exit(1 if wrong else 0)

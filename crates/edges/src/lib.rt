@@ -2,8 +2,8 @@
 ghost use mathlib.Core.Path.{_≡_};
 ghost use Rattle.words.specs.Choice.{pick};
 ghost use Rattle.edges.specs.States.{stateCode, isService};
-ghost use Rattle.edges.specs.Edges.{toOf, fromOf, permitsEdge, isActive, isSending, writeKeeps, writeFails, writeStops};
-ghost use Rattle.edges.specs.Edges.{permitsWrite, permits, judgeOf, edgeVerdictNumber};
+ghost use Rattle.edges.specs.Edges.{toOf, permits, judgeOf, edgeVerdictNumber};
+ghost use Rattle.edges.specs.Lines.{edgeBit, sqeBits, writeBits, bitsOf, Leads};
 
 // The states of a queue pair.
 pub enum State {
@@ -90,115 +90,119 @@ pub fn is_service(service: u8) -> bool
     service == 3
 }
 
-// Whether an edge starts at the state with this code.
-fn starts_at(edge: Edge, code: u8) -> bool
-    ensures { λ r. ⌜ r ≡ fromOf edge code ⌝ }
+// A set of moves has a bit for each command's edge, and one for each state that an engine write may
+// leave; SQE has two, one for every type and one for every type but RC.
+const RESET_TO_INIT: u32 = 0x1;
+
+const INIT_TO_INIT: u32 = 0x2;
+
+const INIT_TO_RTR: u32 = 0x4;
+
+const RTR_TO_RTS: u32 = 0x8;
+
+const RTS_TO_RTS: u32 = 0x10;
+
+const SQE_TO_RTS: u32 = 0x20;
+
+const RTS_TO_SQD: u32 = 0x40;
+
+const SQD_TO_SQD: u32 = 0x80;
+
+const SQD_TO_RTS: u32 = 0x100;
+
+const TO_ERR: u32 = 0x200;
+
+const TO_RESET: u32 = 0x400;
+
+const WRITE_RTR: u32 = 0x1000;
+
+const WRITE_RTS: u32 = 0x2000;
+
+const WRITE_SQE: u32 = 0x4000;
+
+const WRITE_SQE_NOT_RC: u32 = 0x8000;
+
+const WRITE_SQD: u32 = 0x10000;
+
+const WRITE_ERR: u32 = 0x20000;
+
+// What leads out of each state, one line for each, by rising code: RESET 0, INIT 1, RTR 2, RTS 3,
+// SQE 4, SQD 5, ERR 6. Out of every other code nothing leads.
+fn leads(code: u8) -> u32
+    ensures { λ r. ⌜ Leads code r ⌝ }
+{
+    match code {
+        0 => RESET_TO_INIT,
+        1 => INIT_TO_INIT | INIT_TO_RTR | TO_ERR | TO_RESET,
+        2 => RTR_TO_RTS | TO_ERR | TO_RESET | WRITE_RTR | WRITE_ERR,
+        3 => RTS_TO_RTS | RTS_TO_SQD | TO_ERR | TO_RESET | WRITE_RTS | WRITE_SQE_NOT_RC | WRITE_ERR,
+        4 => SQE_TO_RTS | TO_ERR | TO_RESET | WRITE_SQE | WRITE_ERR,
+        5 => SQD_TO_SQD | SQD_TO_RTS | TO_ERR | TO_RESET | WRITE_SQD | WRITE_SQE_NOT_RC | WRITE_ERR,
+        6 => TO_RESET,
+        _ => 0,
+    }
+}
+
+// The bit of a command's edge.
+fn edge_bit(edge: Edge) -> u32
+    ensures { λ r. ⌜ r ≡ edgeBit edge ⌝ }
 {
     match edge {
-        Edge::ResetToInit => code == 0,
-        Edge::InitToInit => code == 1,
-        Edge::InitToRtr => code == 1,
-        Edge::RtrToRts => code == 2,
-        Edge::RtsToRts => code == 3,
-        Edge::SqeToRts => code == 4,
-        Edge::RtsToSqd => code == 3,
-        Edge::SqdToSqd => code == 5,
-        Edge::SqdToRts => code == 5,
-        Edge::ToErr => code != 0 && code != 6,
-        Edge::ToReset => code != 0,
+        Edge::ResetToInit => RESET_TO_INIT,
+        Edge::InitToInit => INIT_TO_INIT,
+        Edge::InitToRtr => INIT_TO_RTR,
+        Edge::RtrToRts => RTR_TO_RTS,
+        Edge::RtsToRts => RTS_TO_RTS,
+        Edge::SqeToRts => SQE_TO_RTS,
+        Edge::RtsToSqd => RTS_TO_SQD,
+        Edge::SqdToSqd => SQD_TO_SQD,
+        Edge::SqdToRts => SQD_TO_RTS,
+        Edge::ToErr => TO_ERR,
+        Edge::ToReset => TO_RESET,
     }
 }
 
-// Whether a command may move a queue pair along an edge from the state with this code: from no code above 6.
-fn edge_permitted(edge: Edge, code: u8) -> bool
-    ensures { λ r. ⌜ r ≡ permitsEdge edge code ⌝ }
+// The bits of an engine write to SQE: both for every type but RC.
+fn sqe_bits(service: u8) -> u32
+    ensures { λ r. ⌜ r ≡ sqeBits service ⌝ }
 {
-    if 6 < code {
-        return false;
+    if service == 0 {
+        return WRITE_SQE;
     }
-    starts_at(edge, code)
+    WRITE_SQE | WRITE_SQE_NOT_RC
 }
 
-// Whether the code is that of RTR, RTS, SQD or SQE.
-fn is_active(code: u8) -> bool
-    ensures { λ r. ⌜ r ≡ isActive code ⌝ }
+// The bits of an engine write that leaves this state. RESET and INIT have none: no write may leave
+// them.
+fn write_bits(to: State, service: u8) -> u32
+    ensures { λ r. ⌜ r ≡ writeBits to service ⌝ }
 {
-    if code == 2 {
-        return true;
+    match to {
+        State::Reset => 0,
+        State::Init => 0,
+        State::Rtr => WRITE_RTR,
+        State::Rts => WRITE_RTS,
+        State::Sqe => sqe_bits(service),
+        State::Sqd => WRITE_SQD,
+        State::Err => WRITE_ERR,
     }
-    if code == 3 {
-        return true;
-    }
-    if code == 5 {
-        return true;
-    }
-    code == 4
 }
 
-// Whether an engine write keeps the state, one of the four.
-fn keeps(to: State, code: u8) -> bool
-    ensures { λ r. ⌜ r ≡ writeKeeps to code ⌝ }
+// The bits of a move: it is permitted where one of them leads out of the code.
+fn bits(asked: Move, service: u8) -> u32
+    ensures { λ r. ⌜ r ≡ bitsOf asked service ⌝ }
 {
-    if !is_active(code) {
-        return false;
+    match asked {
+        Move::Command(edge) => edge_bit(edge),
+        Move::Engine(to) => write_bits(to, service),
     }
-    code == state_code(to)
-}
-
-// Whether an engine write goes from one of the four to ERR.
-fn fails(to: State, code: u8) -> bool
-    ensures { λ r. ⌜ r ≡ writeFails to code ⌝ }
-{
-    if !is_active(code) {
-        return false;
-    }
-    state_code(to) == 6
-}
-
-// Whether the code is that of RTS or SQD.
-fn is_sending(code: u8) -> bool
-    ensures { λ r. ⌜ r ≡ isSending code ⌝ }
-{
-    if code == 3 {
-        return true;
-    }
-    code == 5
-}
-
-// Whether an engine write stops the send queue: to SQE, from RTS or SQD, never for RC.
-fn stops(to: State, code: u8, service: u8) -> bool
-    ensures { λ r. ⌜ r ≡ writeStops to code service ⌝ }
-{
-    if !is_sending(code) {
-        return false;
-    }
-    if state_code(to) != 4 {
-        return false;
-    }
-    service != 0
-}
-
-// Whether an engine write may leave the state `to`.
-fn write_permitted(to: State, code: u8, service: u8) -> bool
-    ensures { λ r. ⌜ r ≡ permitsWrite to code service ⌝ }
-{
-    if keeps(to, code) {
-        return true;
-    }
-    if fails(to, code) {
-        return true;
-    }
-    stops(to, code, service)
 }
 
 // Whether the move is permitted.
 fn permitted(asked: Move, code: u8, service: u8) -> bool
     ensures { λ r. ⌜ r ≡ permits asked code service ⌝ }
 {
-    match asked {
-        Move::Command(edge) => edge_permitted(edge, code),
-        Move::Engine(to) => write_permitted(to, code, service),
-    }
+    leads(code) & bits(asked, service) != 0
 }
 
 // The decision, from the record's state code and service type.
