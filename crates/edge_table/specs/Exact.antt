@@ -1,6 +1,6 @@
 -- The table has exactly the permitted moves.
-use mathlib.Core.Path.{_≡_, refl, sym, _∙_}
-use mathlib.Core.Bool.{Bool, true, false, Bool·beq}
+use mathlib.Core.Path.{_≡_, refl, sym}
+use mathlib.Core.Bool.{Bool, true, false}
 use mathlib.Core.List.{List, [], _∷_}
 use Prim.Native.Nat.{ℕ, suc, _<_}
 use native.Mathlib.Decide.{decLt}
@@ -10,7 +10,7 @@ use borrow.Author.Tests.{ne-eqb, leb-true}
 use Rattle.words.specs.Choice.{both, either, both-left, both-right}
 use Rattle.edges.specs.States.{stateCode, rc, uc}
 use Rattle.edges.specs.Edges.{permits, permitsEdge, isActive, writeKeeps, writeFails, isSending, writeStops, permitsWrite}
-use Rattle.edges.specs.Every.{everyEdge, everyMove, each-move, agree, everyBelow, each-below, none-permitted, by-type, permits-as-uc}
+use Rattle.edges.specs.Every.{everyEdge, everyBelow, each-below, none-permitted, agrees, all-agree}
 use Rattle.edges.specs.declared.State.{State}
 use Rattle.edges.specs.declared.Edge.{Edge}
 use Rattle.edges.specs.declared.Move.{Move}
@@ -50,11 +50,11 @@ pub record Exact : Type 0 where
   pub moves : wellFormed table ≡ true
 
 -- ---- the proof: one test of every move from every code below 16, for RC and for UC
-abbrev moveRight : ℕ → ℕ → Move → Bool
-moveRight code service asked = Bool·beq (allows (entryIn table asked code) service) (permits asked code service)
+abbrev tabled : ℕ → Move → ℕ → Bool
+tabled code asked service = allows (entryIn table asked code) service
 
 abbrev codeRight : ℕ → Bool
-codeRight code = both (everyMove (moveRight code rc)) (everyMove (moveRight code uc))
+codeRight code = both (agrees (tabled code) code rc) (agrees (tabled code) code uc)
 
 tested : everyBelow 16 codeRight ≡ true
 unfolding permitsEdge isActive writeKeeps writeFails isSending writeStops permitsWrite
@@ -66,14 +66,10 @@ allows-as-uc UnlessRc service h = rw h
 allows-as-uc Never service h = refl
 
 -- from a code that the test reaches
-below : (code : ℕ) → codeRight code ≡ true → (asked : Move) (service : ℕ) → allows (entryIn table asked code) service ≡ permits asked code service
-below code t asked service =
-    by-type (λ x. allows (entryIn table asked code) x ≡ permits asked code x)
-    (agree _ _ (each-move (moveRight code rc) (both-left _ (everyMove (moveRight code uc)) t) asked))
-    (λ x e. allows-as-uc (entryIn table asked code) x e
-    ∙ agree _ _ (each-move (moveRight code uc) (both-right (everyMove (moveRight code rc)) _ t) asked)
-    ∙ sym (permits-as-uc asked code x e))
-    service
+below : (code : ℕ) → codeRight code ≡ true → (asked : Move) (service : ℕ) → tabled code asked service ≡ permits asked code service
+below code t =
+    all-agree (tabled code) code (λ asked. allows-as-uc (entryIn table asked code))
+    (both-left _ (agrees (tabled code) code uc) t) (both-right (agrees (tabled code) code rc) _ t)
 
 -- a code above 15 has no line
 abbrev codesSmall : List Line → Bool

@@ -1,6 +1,7 @@
 -- The table of edges, to be held against the InfiniBand drawing (02, wish 3): one line for each code that a record's word 00h can have as its
--- state, 0 to 15, with everything that may leave it. It is data, written apart from the rule, which is `edges/Edges: permits`;
--- `Exact: exact` proves that the two are the same.
+-- state, 0 to 15, with everything that may leave it: commands (01, Commands, the table of edges; 0x1e also 02, wish 1) and engine writes
+-- (01, Engine requests). It is data, written apart from the rule, which is `edges/Edges: permits`; `Exact: exact` proves that the two are the
+-- same.
 use mathlib.Core.Bool.{Bool, true, false, not}
 use mathlib.Core.List.{List, [], _∷_}
 use Prim.Native.Nat.{ℕ}

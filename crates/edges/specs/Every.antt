@@ -1,6 +1,6 @@
 -- Rules over all moves, codes and types, as one computed test: what is tested of every move and code holds of each, and UC stands for every
 -- type that is not RC.
-use mathlib.Core.Path.{_≡_, refl, sym, subst}
+use mathlib.Core.Path.{_≡_, refl, sym, subst, _∙_}
 use mathlib.Core.Bool.{Bool, true, false, false≢true, Bool·beq}
 use mathlib.Core.List.{List, [], _∷_}
 use mathlib.Core.Logic.{inl, inr}
@@ -36,7 +36,7 @@ abbrev every : {A : Type 0} → (A → Bool) → List A → Bool
 every p [] = true
 every p (x ∷ xs) = both (p x) (every p xs)
 
-abbrev pub everyMove : (Move → Bool) → Bool
+abbrev everyMove : (Move → Bool) → Bool
 everyMove p = both (every (λ e. p (Command e)) everyEdge) (every (λ s. p (Engine s)) everyState)
 
 -- so it holds of the member at each place
@@ -67,12 +67,12 @@ each-state p t Sqe = at p everyState Err t 4 (lit< tt)
 each-state p t Sqd = at p everyState Err t 5 (lit< tt)
 each-state p t Err = at p everyState Err t 6 (lit< tt)
 
-pub each-move : (p : Move → Bool) → everyMove p ≡ true → (asked : Move) → p asked ≡ true
+each-move : (p : Move → Bool) → everyMove p ≡ true → (asked : Move) → p asked ≡ true
 each-move p t (Command e) = each-edge (λ x. p (Command x)) (both-left _ (every (λ s. p (Engine s)) everyState) t) e
 each-move p t (Engine s) = each-state (λ x. p (Engine x)) (both-right (every (λ e. p (Command e)) everyEdge) _ t) s
 
 -- two tests agree
-pub agree : (p q : Bool) → Bool·beq p q ≡ true → p ≡ q
+agree : (p q : Bool) → Bool·beq p q ≡ true → p ≡ q
 agree true true e = refl
 agree true false e = absurd (false≢true e)
 agree false true e = absurd (false≢true e)
@@ -101,14 +101,28 @@ none-permitted code h (Engine to) service =
 
 -- ---- every type: RC, and those that are not RC, of which the same is permitted as of UC
 
-pub by-type : (P : ℕ → Type 0) → P rc → ((service : ℕ) → eqb service rc ≡ false → P service) → (service : ℕ) → P service
+by-type : (P : ℕ → Type 0) → P rc → ((service : ℕ) → eqb service rc ≡ false → P service) → (service : ℕ) → P service
 by-type P r o service = go (eqb service rc) refl
   where
     go : (b : Bool) → eqb service rc ≡ b → P service
     go true e = subst P (sym (eqb→eq service rc (subst T (sym e) tt))) r
     go false e = o service e
 
-pub permits-as-uc : (asked : Move) (code service : ℕ) → eqb service rc ≡ false → permits asked code service ≡ permits asked code uc
+permits-as-uc : (asked : Move) (code service : ℕ) → eqb service rc ≡ false → permits asked code service ≡ permits asked code uc
 unfolding permitsWrite writeStops
 permits-as-uc (Command edge) code service e = refl
 permits-as-uc (Engine to) code service e = rw e
+
+-- ---- the rule: a test f of moves and types, which says the same of every type that is not RC, is `permits` if the two agree on every move for
+-- RC and for UC
+abbrev pub agrees : (Move → ℕ → Bool) → ℕ → ℕ → Bool
+agrees f code service = everyMove (λ asked. Bool·beq (f asked service) (permits asked code service))
+
+pub all-agree : (f : Move → ℕ → Bool) (code : ℕ) → ((asked : Move) (service : ℕ) → eqb service rc ≡ false → f asked service ≡ f asked uc)
+    → agrees f code rc ≡ true → agrees f code uc ≡ true → (asked : Move) (service : ℕ) → f asked service ≡ permits asked code service
+all-agree f code as-uc r u asked service =
+    by-type (λ x. f asked x ≡ permits asked code x) (at-type rc r)
+    (λ x e. as-uc asked x e ∙ at-type uc u ∙ sym (permits-as-uc asked code x e)) service
+  where
+    at-type : (x : ℕ) → agrees f code x ≡ true → f asked x ≡ permits asked code x
+    at-type x t = agree _ _ (each-move (λ a. Bool·beq (f a x) (permits a code x)) t asked)

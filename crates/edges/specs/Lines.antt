@@ -1,7 +1,7 @@
 -- How the code writes the decision down: what leads out of a state is a set of moves, one line for each state (02, wish 3). No rule stands
 -- here: a line is right if its set has exactly the moves that `permits` has.
-use mathlib.Core.Path.{_≡_, refl, sym, _∙_}
-use mathlib.Core.Bool.{Bool, true, false, not, Bool·beq}
+use mathlib.Core.Path.{_≡_, refl, sym}
+use mathlib.Core.Bool.{Bool, true, false, not}
 use Prim.Native.Nat.{ℕ, _<_}
 use native.Mathlib.Omega.{arith}
 use lib.Dec.{eqb}
@@ -9,7 +9,7 @@ use lib.Bits.{bitAnd}
 use Rattle.words.specs.Choice.{pick}
 use Rattle.edges.specs.States.{rc, uc}
 use Rattle.edges.specs.Edges.{permits}
-use Rattle.edges.specs.Every.{everyMove, each-move, agree, by-type, permits-as-uc, none-permitted}
+use Rattle.edges.specs.Every.{none-permitted, agrees, all-agree}
 use Rattle.edges.specs.declared.State.{State}
 use Rattle.edges.specs.declared.State.the-variants.{Reset, Init, Rtr, Rts, Sqe, Sqd, Err}
 use Rattle.edges.specs.declared.Edge.{Edge}
@@ -59,11 +59,8 @@ pub record Leads (code set : ℕ) : Type 0 where
   pub exactly : (asked : Move) (service : ℕ) → has set asked service ≡ permits asked code service
 
 -- ---- a line's test: of every move, for RC and for UC
-abbrev moveRight : ℕ → ℕ → ℕ → Move → Bool
-moveRight code set service asked = Bool·beq (has set asked service) (permits asked code service)
-
 abbrev pub LineRight : ℕ → ℕ → Type 0
-LineRight code set = (everyMove (moveRight code set rc) ≡ true) × (everyMove (moveRight code set uc) ≡ true)
+LineRight code set = (agrees (has set) code rc ≡ true) × (agrees (has set) code uc ≡ true)
 
 has-as-uc : (set : ℕ) (asked : Move) (service : ℕ) → eqb service rc ≡ false → has set asked service ≡ has set asked uc
 has-as-uc set (Command edge) service e = refl
@@ -75,16 +72,9 @@ has-as-uc set (Engine Sqe) service e = rw e
 has-as-uc set (Engine Sqd) service e = refl
 has-as-uc set (Engine Err) service e = refl
 
-right : (code set : ℕ) → LineRight code set → (asked : Move) (service : ℕ) → has set asked service ≡ permits asked code service
-right code set t asked service =
-    by-type (λ x. has set asked x ≡ permits asked code x)
-    (agree _ _ (each-move (moveRight code set rc) (t .0) asked))
-    (λ x e. has-as-uc set asked x e ∙ agree _ _ (each-move (moveRight code set uc) (t .1) asked) ∙ sym (permits-as-uc asked code x e))
-    service
-
 -- a line that passes the test is right
 pub line : (code set k : ℕ) → code ≡ k → LineRight k set → Leads code set
-line code set k e t = record { exactly = λ asked service. rw e (right k set t asked service) }
+line code set k e t = record { exactly = λ asked service. rw e (all-agree (has set) k (has-as-uc set) (t .0) (t .1) asked service) }
 
 -- a code that is none of the seven is above 6
 past-three : (code : ℕ) → ¬ (code ≡ 0) → ¬ (code ≡ 1) → ¬ (code ≡ 2) → ¬ (code ≡ 3) → 3 < code

@@ -114,6 +114,8 @@ const TO_ERR: u32 = 0x200;
 
 const TO_RESET: u32 = 0x400;
 
+const NO_WRITE: u32 = 0;
+
 const WRITE_RTR: u32 = 0x1000;
 
 const WRITE_RTS: u32 = 0x2000;
@@ -178,8 +180,8 @@ fn write_bits(to: State, service: u8) -> u32
     ensures { λ r. ⌜ r ≡ writeBits to service ⌝ }
 {
     match to {
-        State::Reset => 0,
-        State::Init => 0,
+        State::Reset => NO_WRITE,
+        State::Init => NO_WRITE,
         State::Rtr => WRITE_RTR,
         State::Rts => WRITE_RTS,
         State::Sqe => sqe_bits(service),
