@@ -70,7 +70,8 @@ enum ecgslope_returned {
     ECGSLOPE_NO_REQUEST = 0x84,    /* no such slot, or nothing in it to step or to collect */
     ECGSLOPE_NOT_PERMITTED = 0x85, /* an edge that is not permitted, or the wrong owner */
     ECGSLOPE_STILL_RUNNING = 0x86, /* a collection before the last burst */
-    ECGSLOPE_IMPOSSIBLE = 0x87     /* the device's bytes are no possible state */
+    ECGSLOPE_IMPOSSIBLE = 0x87,    /* the device's bytes are no possible state */
+    ECGSLOPE_NOT_FOR_TYPE = 0x88   /* an engine write that is permitted for another service type, but not for the queue pair's */
 };
 
 /* Commands. Those on a record take its number as in_modifier. */

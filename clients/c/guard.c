@@ -201,7 +201,7 @@ static void check_accepted(uint32_t answer)
     }
 }
 
-static const uint8_t numbers[] = { 0, 2, 3, 4, 0x81, 0x82, 0x83, 0x84, 0x85, 0x86, 0x87 };
+static const uint8_t numbers[] = { 0, 2, 3, 4, 0x81, 0x82, 0x83, 0x84, 0x85, 0x86, 0x87, 0x88 };
 
 static void check_answer(uint32_t answer)
 {

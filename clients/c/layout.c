@@ -18,8 +18,8 @@ static_assert(ECGSLOPE_INIT_MAILBOX_BYTES == 64, "INIT_HCA's mailbox");
 static_assert(ECGSLOPE_OK == 0 && ECGSLOPE_NOT_SERVED == 2 && ECGSLOPE_BAD_PARAMETER == 3 && ECGSLOPE_BAD_SYSTEM_STATE == 4,
               "numbers of the interface document, table 3-1-5");
 static_assert(ECGSLOPE_BUSY == 0x81 && ECGSLOPE_FULL == 0x82 && ECGSLOPE_BAD_LENGTH == 0x83 && ECGSLOPE_NO_REQUEST == 0x84 &&
-              ECGSLOPE_NOT_PERMITTED == 0x85 && ECGSLOPE_STILL_RUNNING == 0x86 && ECGSLOPE_IMPOSSIBLE == 0x87,
-              "numbers of the model");
+              ECGSLOPE_NOT_PERMITTED == 0x85 && ECGSLOPE_STILL_RUNNING == 0x86 && ECGSLOPE_IMPOSSIBLE == 0x87 &&
+              ECGSLOPE_NOT_FOR_TYPE == 0x88, "numbers of the model");
 static_assert(ECGSLOPE_RESET == 0 && ECGSLOPE_INIT == 1 && ECGSLOPE_RTR == 2 && ECGSLOPE_RTS == 3 && ECGSLOPE_SQE == 4 &&
               ECGSLOPE_SQD == 5 && ECGSLOPE_ERR == 6, "states");
 static_assert(ECGSLOPE_READ_STATE == 1 && ECGSLOPE_READ_JOINED == 7, "engine requests");

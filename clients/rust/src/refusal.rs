@@ -24,6 +24,8 @@ pub enum Refusal {
     StillRunning = 0x86,
     /// The device's bytes are no possible state.
     Impossible = 0x87,
+    /// An engine write that is permitted for another service type, but not for the queue pair's.
+    NotForType = 0x88,
 }
 
 impl Refusal {
@@ -45,6 +47,7 @@ impl Refusal {
             0x85 => Refusal::NotPermitted,
             0x86 => Refusal::StillRunning,
             0x87 => Refusal::Impossible,
+            0x88 => Refusal::NotForType,
             _ => return None,
         })
     }

@@ -62,20 +62,26 @@ fn met(seen: &Seen, numbers: &[usize]) {
 #[test]
 fn undamaged_traffic() {
     let seen = lists(Plan::Traffic, 1, 400, 5000);
-    met(&seen, &[0, 2, 3, 4, 0x81, 0x82, 0x83, 0x84, 0x85, 0x86]);
+    met(
+        &seen,
+        &[0, 2, 3, 4, 0x81, 0x82, 0x83, 0x84, 0x85, 0x86, 0x88],
+    );
     assert!(seen.refusals > 1000 && seen.checks > 1000);
 }
 
 #[test]
 fn arbitrary_records() {
     let seen = lists(Plan::Records, 1_000_001, 400, 5000);
-    met(&seen, &[0, 2, 3, 4, 0x81, 0x82, 0x83, 0x84, 0x85, 0x86]);
+    met(
+        &seen,
+        &[0, 2, 3, 4, 0x81, 0x82, 0x83, 0x84, 0x85, 0x86, 0x88],
+    );
 }
 
 #[test]
 fn damaged_device() {
     let seen = lists(Plan::Device, 2_000_001, 400, 5000);
-    met(&seen, &[0, 3, 0x81, 0x83, 0x84, 0x85, 0x86, 0x87]);
+    met(&seen, &[0, 3, 0x81, 0x83, 0x84, 0x85, 0x86, 0x87, 0x88]);
 }
 
 /// Traffic in the largest store, and requests on the last record of each kind.

@@ -127,7 +127,7 @@ fn marked(side: Side) {
     };
     assert_eq!(to_sqe(State::Rtr, 3), 0x85);
     assert_eq!(to_sqe(State::Rts, 3), 0);
-    assert_eq!(to_sqe(State::Rts, 0), 0x85);
+    assert_eq!(to_sqe(State::Rts, 0), 0x88);
     // P12.
     let mut adapter = Adapter::open(side);
     adapter.set(5, State::Rtr as u8, 0);
@@ -192,11 +192,15 @@ fn each_edge(side: Side) {
             let mut adapter = Adapter::open(side);
             adapter.set(2, code, service_type);
             let starts = [2, 3, 4, 5].contains(&code);
-            let to_sqe = to == 4 && [3, 5].contains(&code) && service_type != 0;
-            let permitted = starts && (to == code || to == 6 || to_sqe);
+            let to_sqe = to == 4 && [3, 5].contains(&code);
             let answer = adapter.engine(3, 2, 0x12_3456, to);
-            assert_eq!(answer, if permitted { 0x100 } else { 0x85 });
-            if permitted {
+            let right = match starts && (to == code || to == 6 || to_sqe) {
+                true if to_sqe && service_type == 0 => 0x88,
+                true => 0x100,
+                false => 0x85,
+            };
+            assert_eq!(answer, right);
+            if right == 0x100 {
                 adapter.finish(answer);
                 let read = adapter.engine(2, 2, 0, 0);
                 assert_eq!(adapter.finish(read), [to, 0x12, 0x34, 0x56]);

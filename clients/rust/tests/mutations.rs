@@ -34,7 +34,8 @@ macro_rules! faulty {
 
 #[test]
 fn every_fault_is_found() {
-    let sides = faulty!(1 2 3 4 5 6 7 8 9 10 11 12 13 14 15 16 17 18 19 20 21 22 23 24 25 26 27 28);
+    let sides =
+        faulty!(1 2 3 4 5 6 7 8 9 10 11 12 13 14 15 16 17 18 19 20 21 22 23 24 25 26 27 28 29 30);
     assert!(sides
         .iter()
         .map(|side| side.0)
@@ -50,7 +51,7 @@ fn every_fault_is_found() {
 /// Demand 3 alone finds the faults that concern it: the same faulty side on the left and on the right, held against the book.
 #[test]
 fn the_book_finds_faults() {
-    let sides = faulty!(1 4 5 11 12 16 17 21 26 28);
+    let sides = faulty!(1 4 5 11 12 16 17 21 26 28 29 30);
     for (number, faulty) in sides {
         let mut seen = Seen::default();
         let found = (1..100).any(|seed| {

@@ -5,7 +5,7 @@ use mathlib.Core.List.{List}
 use Prim.Native.Nat.{ℕ}
 use native.Mathlib.Omega.{arith}
 use Rattle.words.specs.Choice.{pick}
-use Rattle.edges.specs.Edges.{permits, judgeOf}
+use Rattle.edges.specs.Edges.{permits, forSomeType, judgeOf}
 use Rattle.edges.specs.declared.Move.{Move}
 use Rattle.edges.specs.declared.Move.the-variants as move
 use Rattle.edges.specs.declared.EdgeVerdict.the-variants as edge
@@ -78,8 +78,21 @@ abbrev pub permitsIn : Request → List ℕ → Bool
 permitsIn (request.Command c) r = permitsCommand c r
 permitsIn (request.Engine e) r = permitsEngine e r
 
--- A verdict has the number 0 where the test holds, and else 0x85 (01, Numbers returned, 0x85): for a record that must be software's, for
--- one that must be the hardware's, for an edge, and so for every request.
+-- The request is an engine write that some service type permits in the record's state (02, wish 5).
+abbrev pub engineForSomeType : EngineRequest → List ℕ → Bool
+engineForSomeType (engine.ReadState n) r = false
+engineForSomeType (engine.ReadNext n) r = false
+engineForSomeType (engine.ReadAll n) r = false
+engineForSomeType (engine.Write p s n psn) r = forSomeType (move.Engine s) (stateOf r)
+engineForSomeType (engine.ReadJoined n c e) r = false
+
+abbrev pub forSomeTypeIn : Request → List ℕ → Bool
+forSomeTypeIn (request.Command c) r = false
+forSomeTypeIn (request.Engine e) r = engineForSomeType e r
+
+-- A verdict has the number 0 where the test holds, and else 0x85 (01, Numbers returned, 0x85) or, of an engine write that some service type
+-- permits, 0x88 (02, wish 5): for a record that must be software's, for one that must be the hardware's, for an edge, and so for every
+-- request. A command never gets 0x88.
 software-number : (b : Bool) → verdictNumber (pick b (Denied denial.Owner) Permitted) ≡ pick (not b) 0 0x85
 software-number true = refl
 software-number false = refl
@@ -88,13 +101,16 @@ hardware-number : (b : Bool) → verdictNumber (pick b Permitted (Denied denial.
 hardware-number true = refl
 hardware-number false = refl
 
-edge-number : (b : Bool) → verdictNumber (byEdge (pick b edge.Permitted edge.NotPermitted)) ≡ pick b 0 0x85
-edge-number true = refl
-edge-number false = refl
+edge-number : (b t : Bool)
+    → verdictNumber (byEdge (pick b edge.Permitted (pick t edge.NotForType edge.NotPermitted))) ≡ pick b 0 (pick t 0x88 0x85)
+edge-number true t = refl
+edge-number false true = refl
+edge-number false false = refl
 
-move-number : (asked : Move) (r : List ℕ) → verdictNumber (moveVerdict asked r) ≡ pick (permitsMove asked r) 0 0x85
+move-number : (asked : Move) (r : List ℕ)
+    → verdictNumber (moveVerdict asked r) ≡ pick (permitsMove asked r) 0 (pick (forSomeType asked (stateOf r)) 0x88 0x85)
 unfolding judgeOf
-move-number asked r = edge-number (permitsMove asked r)
+move-number asked r = edge-number (permitsMove asked r) (forSomeType asked (stateOf r))
 
 command-number : (c : Command) (r : List ℕ) → verdictNumber (commandPermits c r) ≡ pick (permitsCommand c r) 0 0x85
 command-number (command.Sw2Hw o) r = software-number (isHardware r)
@@ -103,26 +119,29 @@ command-number (command.ResizeCq n) r = hardware-number (isHardware r)
 command-number (command.QueryQp n) r = refl
 command-number (command.ModifyQp e n) r = move-number (move.Command e) r
 
-engine-number : (e : EngineRequest) (r : List ℕ) → verdictNumber (enginePermits e r) ≡ pick (permitsEngine e r) 0 0x85
+engine-number : (e : EngineRequest) (r : List ℕ)
+    → verdictNumber (enginePermits e r) ≡ pick (permitsEngine e r) 0 (pick (engineForSomeType e r) 0x88 0x85)
 engine-number (engine.ReadState n) r = refl
 engine-number (engine.ReadNext n) r = refl
 engine-number (engine.ReadAll n) r = refl
 engine-number (engine.Write p s n psn) r = move-number (move.Engine s) r
 engine-number (engine.ReadJoined n c e) r = refl
 
-pub permission-number : (q : Request) (r : List ℕ) → verdictNumber (permissionOf q r) ≡ pick (permitsIn q r) 0 0x85
+pub permission-number : (q : Request) (r : List ℕ)
+    → verdictNumber (permissionOf q r) ≡ pick (permitsIn q r) 0 (pick (forSomeTypeIn q r) 0x88 0x85)
 permission-number (request.Command c) r = command-number c r
 permission-number (request.Engine e) r = engine-number e r
 
-number-holds : (b : Bool) → _≡_ {A = ℕ} 0 (pick b 0 0x85) → b ≡ true
-number-holds true e = refl
-number-holds false e = absurd (omega arith)
+number-holds : (b t : Bool) → _≡_ {A = ℕ} 0 (pick b 0 (pick t 0x88 0x85)) → b ≡ true
+number-holds true t e = refl
+number-holds false true e = absurd (omega arith)
+number-holds false false e = absurd (omega arith)
 
 -- Where the verdict is that the record permits the request, the test holds.
 pub permission-holds : (q : Request) (r : List ℕ) → permissionOf q r ≡ Permitted → permitsIn q r ≡ true
-permission-holds q r e = number-holds (permitsIn q r) (sym (ap verdictNumber e) ∙ permission-number q r)
+permission-holds q r e = number-holds (permitsIn q r) (forSomeTypeIn q r) (sym (ap verdictNumber e) ∙ permission-number q r)
 
 -- A verdict that is the record's, with its number.
 pub permission-told : (q : Request) (r : List ℕ) {v : Verdict} → v ≡ permissionOf q r
-    → (v ≡ permissionOf q r) × (verdictNumber v ≡ pick (permitsIn q r) 0 0x85)
+    → (v ≡ permissionOf q r) × (verdictNumber v ≡ pick (permitsIn q r) 0 (pick (forSomeTypeIn q r) 0x88 0x85))
 permission-told q r e = (e, ap verdictNumber e ∙ permission-number q r)

@@ -14,12 +14,13 @@ ghost use Rattle.request_table.specs.Records.{recordOf};
 ghost use Rattle.checks.specs.Fields.{stateOf, serviceOf, cqNamed, eqNamed, isHardware};
 ghost use Rattle.checks.specs.Verdicts.{verdictNumber, byEdge};
 ghost use Rattle.checks.specs.Permission.{softwareOnly, hardwareOnly, moveVerdict, commandPermits, enginePermits};
-ghost use Rattle.checks.specs.Permission.{permissionOf, permitsIn};
+ghost use Rattle.checks.specs.Permission.{permissionOf, permitsIn, forSomeTypeIn};
 
-// Why a record's state denies a request: the edge is not permitted, the owner is the wrong one, or
-// the record names another that the store has not.
+// Why a record's state denies a request: the edge is not permitted, or not for the record's service
+// type, the owner is the wrong one, or the record names another that the store has not.
 pub enum Denial {
     Edge,
+    ServiceType,
     Owner,
     Name,
 }
@@ -99,6 +100,7 @@ fn by_edge(verdict: EdgeVerdict) -> Verdict
     match verdict {
         EdgeVerdict::Permitted => Verdict::Permitted,
         EdgeVerdict::NotPermitted => Verdict::Denied(Denial::Edge),
+        EdgeVerdict::NotForType => Verdict::Denied(Denial::ServiceType),
     }
 }
 
@@ -142,7 +144,7 @@ fn engine_permitted(engine: EngineRequest, rec: &[u8]) -> Verdict
 pub fn permission(request: Request, rec: &[u8]) -> Verdict
     requires { ⌜ 64 ≤ length (now rec) ⌝ }
     ensures { λ r. ⌜ (r ≡ permissionOf request (now (rec .entry)))
-        × (verdictNumber r ≡ pick (permitsIn request (now (rec .entry))) 0 0x85) ⌝ }
+        × (verdictNumber r ≡ pick (permitsIn request (now (rec .entry))) 0 (pick (forSomeTypeIn request (now (rec .entry))) 0x88 0x85)) ⌝ }
 {
     match request {
         Request::Command(command) => command_permitted(command, rec),
@@ -162,7 +164,8 @@ fn size_of(request: Request) -> usize
 pub fn permission_at(request: Request, store: &[u8], at: usize) -> Verdict
     requires { ⌜ at + recordSize (recordOf request) ≤ length (now store) ⌝ }
     ensures { λ r. ⌜ (r ≡ permissionOf request (part at (recordSize (recordOf request)) (now (store .entry))))
-        × (verdictNumber r ≡ pick (permitsIn request (part at (recordSize (recordOf request)) (now (store .entry)))) 0 0x85) ⌝ }
+        × (verdictNumber r ≡ pick (permitsIn request (part at (recordSize (recordOf request)) (now (store .entry)))) 0
+        (pick (forSomeTypeIn request (part at (recordSize (recordOf request)) (now (store .entry)))) 0x88 0x85)) ⌝ }
 {
     let end = at + size_of(request);
     permission(request, &store[at..end])

@@ -14,6 +14,8 @@ use Rattle.edges.specs.declared.State.the-variants.{Reset, Init, Rtr, Rts, Sqe,
 use Rattle.edges.specs.declared.Edge.{Edge}
 use Rattle.edges.specs.declared.Move.{Move}
 use Rattle.edges.specs.declared.Move.the-variants.{Command, Engine}
+use Rattle.edges.specs.declared.EdgeVerdict.{EdgeVerdict}
+use Rattle.edges.specs.declared.EdgeVerdict.the-variants.{Permitted, NotPermitted, NotForType}
 use Rattle.request_codes.specs.Numbers.{edgeOp}
 use Rattle.edge_table.specs.declared.Entry.{Entry}
 use Rattle.edge_table.specs.declared.Entry.the-variants.{Always, UnlessRc, Never}
@@ -88,3 +90,9 @@ abbrev pub allows : Entry → ℕ → Bool
 allows Always service = true
 allows UnlessRc service = not (eqb service rc)
 allows Never service = false
+
+-- What a move is told by its entry: one that is for every type but RC is refused for the type where that is RC (02, wish 5).
+abbrev pub verdictBy : Entry → ℕ → EdgeVerdict
+verdictBy Always service = Permitted
+verdictBy UnlessRc service = pick (eqb service rc) NotForType Permitted
+verdictBy Never service = NotPermitted

@@ -1,9 +1,9 @@
 -- Which moves are permitted, from which state code and for which service type.
-use mathlib.Core.Bool.{Bool, not}
+use mathlib.Core.Bool.{Bool, false, not}
 use Prim.Native.Nat.{ℕ}
 use lib.Dec.{eqb}
 use Rattle.words.specs.Choice.{pick, both, either}
-use Rattle.edges.specs.States.{stateCode, isState, rc}
+use Rattle.edges.specs.States.{stateCode, isState, rc, uc, ud}
 use Rattle.edges.specs.declared.State.{State}
 use Rattle.edges.specs.declared.State.the-variants.{Reset, Init, Rtr, Rts, Sqe, Sqd, Err}
 use Rattle.edges.specs.declared.Edge.{Edge}
@@ -12,7 +12,7 @@ use Rattle.edges.specs.declared.Edge.the-variants.{RtsToSqd, SqdToSqd, S
 use Rattle.edges.specs.declared.Move.{Move}
 use Rattle.edges.specs.declared.Move.the-variants.{Command, Engine}
 use Rattle.edges.specs.declared.EdgeVerdict.{EdgeVerdict}
-use Rattle.edges.specs.declared.EdgeVerdict.the-variants.{Permitted, NotPermitted}
+use Rattle.edges.specs.declared.EdgeVerdict.the-variants.{Permitted, NotPermitted, NotForType}
 
 -- The code is that of the state.
 abbrev pub is : State → ℕ → Bool
@@ -80,11 +80,22 @@ abbrev pub permits : Move → ℕ → ℕ → Bool
 permits (Command edge) code service = permitsEdge edge code
 permits (Engine to) code service = permitsWrite to code service
 
--- The decision, as a verdict.
-unfoldable pub judgeOf : Move → ℕ → ℕ → EdgeVerdict
-judgeOf asked code service = pick (permits asked code service) Permitted NotPermitted
+-- An engine write from this code to this state is permitted for some service type, RC, UC or UD.
+unfoldable pub permitsSome : State → ℕ → Bool
+permitsSome to code = either (permitsWrite to code rc) (either (permitsWrite to code uc) (permitsWrite to code ud))
 
--- The number of each verdict (01, Numbers returned, 0x85).
+-- The move is an engine write, permitted for some service type; a command is never refused for the type (02, wish 5).
+abbrev pub forSomeType : Move → ℕ → Bool
+forSomeType (Command edge) code = false
+forSomeType (Engine to) code = permitsSome to code
+
+-- The decision, as a verdict. An engine write that is not permitted for the record's type, but for another, is refused for the type, and
+-- every other move that is not permitted for its edge (02, wish 5).
+unfoldable pub judgeOf : Move → ℕ → ℕ → EdgeVerdict
+judgeOf asked code service = pick (permits asked code service) Permitted (pick (forSomeType asked code) NotForType NotPermitted)
+
+-- The number of each verdict (01, Numbers returned, 0x85; 02, wish 5).
 abbrev pub edgeVerdictNumber : EdgeVerdict → ℕ
 edgeVerdictNumber Permitted = 0
 edgeVerdictNumber NotPermitted = 0x85
+edgeVerdictNumber NotForType = 0x88

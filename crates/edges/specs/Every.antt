@@ -108,21 +108,31 @@ by-type P r o service = go (eqb service rc) refl
     go true e = subst P (sym (eqb→eq service rc (subst T (sym e) tt))) r
     go false e = o service e
 
-permits-as-uc : (asked : Move) (code service : ℕ) → eqb service rc ≡ false → permits asked code service ≡ permits asked code uc
+-- a test of moves and types says the same of every type that is not RC
+abbrev pub AsUc : (Move → ℕ → Bool) → Type 0
+AsUc f = (asked : Move) (service : ℕ) → eqb service rc ≡ false → f asked service ≡ f asked uc
+
+pub permits-as-uc : (code : ℕ) → AsUc (λ asked. permits asked code)
 unfolding permitsWrite writeStops
-permits-as-uc (Command edge) code service e = refl
-permits-as-uc (Engine to) code service e = rw e
+permits-as-uc code (Command edge) service e = refl
+permits-as-uc code (Engine to) service e = rw e
 
--- ---- the rule: a test f of moves and types, which says the same of every type that is not RC, is `permits` if the two agree on every move for
--- RC and for UC
-abbrev pub agrees : (Move → ℕ → Bool) → ℕ → ℕ → Bool
-agrees f code service = everyMove (λ asked. Bool·beq (f asked service) (permits asked code service))
+-- ---- the rule: two such tests are one if they agree on every move for RC and for UC
+abbrev pub alike : (Move → ℕ → Bool) → (Move → ℕ → Bool) → ℕ → Bool
+alike f g service = everyMove (λ asked. Bool·beq (f asked service) (g asked service))
 
-pub all-agree : (f : Move → ℕ → Bool) (code : ℕ) → ((asked : Move) (service : ℕ) → eqb service rc ≡ false → f asked service ≡ f asked uc)
-    → agrees f code rc ≡ true → agrees f code uc ≡ true → (asked : Move) (service : ℕ) → f asked service ≡ permits asked code service
-all-agree f code as-uc r u asked service =
-    by-type (λ x. f asked x ≡ permits asked code x) (at-type rc r)
-    (λ x e. as-uc asked x e ∙ at-type uc u ∙ sym (permits-as-uc asked code x e)) service
+pub all-alike : (f g : Move → ℕ → Bool) → AsUc f → AsUc g → alike f g rc ≡ true → alike f g uc ≡ true
+    → (asked : Move) (service : ℕ) → f asked service ≡ g asked service
+all-alike f g f-uc g-uc r u asked service =
+    by-type (λ x. f asked x ≡ g asked x) (at-type rc r) (λ x e. f-uc asked x e ∙ at-type uc u ∙ sym (g-uc asked x e)) service
   where
-    at-type : (x : ℕ) → agrees f code x ≡ true → f asked x ≡ permits asked code x
-    at-type x t = agree _ _ (each-move (λ a. Bool·beq (f a x) (permits a code x)) t asked)
+    at-type : (x : ℕ) → alike f g x ≡ true → f asked x ≡ g asked x
+    at-type x t = agree _ _ (each-move (λ a. Bool·beq (f a x) (g a x)) t asked)
+
+-- and so a test is `permits`
+abbrev pub agrees : (Move → ℕ → Bool) → ℕ → ℕ → Bool
+agrees f code service = alike f (λ asked. permits asked code) service
+
+pub all-agree : (f : Move → ℕ → Bool) (code : ℕ) → AsUc f → agrees f code rc ≡ true → agrees f code uc ≡ true
+    → (asked : Move) (service : ℕ) → f asked service ≡ permits asked code service
+all-agree f code f-uc = all-alike f (λ asked. permits asked code) f-uc (permits-as-uc code)

@@ -3,3 +3,4 @@ pub mod States
 pub mod Edges
 pub mod Every
 pub mod Lines
+pub mod Types

@@ -2,7 +2,7 @@
 ghost use mathlib.Core.Path.{_≡_};
 ghost use Rattle.words.specs.Choice.{pick};
 ghost use Rattle.edges.specs.States.{stateCode, isService};
-ghost use Rattle.edges.specs.Edges.{toOf, permits, judgeOf, edgeVerdictNumber};
+ghost use Rattle.edges.specs.Edges.{toOf, permits, permitsSome, forSomeType, judgeOf, edgeVerdictNumber};
 ghost use Rattle.edges.specs.Lines.{edgeBit, sqeBits, writeBits, bitsOf, Leads};
 
 // The states of a queue pair.
@@ -37,11 +37,19 @@ pub enum Move {
     Engine(State),
 }
 
-// Whether a move is permitted.
+// Whether a move is permitted. An engine write that is not may be permitted for another service type.
 pub enum EdgeVerdict {
     Permitted,
     NotPermitted,
+    NotForType,
 }
+
+// Codes of service types.
+const RC: u8 = 0;
+
+const UC: u8 = 1;
+
+const UD: u8 = 3;
 
 // The code of a state, as a record has it.
 pub fn state_code(state: State) -> u8
@@ -168,7 +176,7 @@ fn edge_bit(edge: Edge) -> u32
 fn sqe_bits(service: u8) -> u32
     ensures { λ r. ⌜ r ≡ sqeBits service ⌝ }
 {
-    if service == 0 {
+    if service == RC {
         return WRITE_SQE;
     }
     WRITE_SQE | WRITE_SQE_NOT_RC
@@ -207,12 +215,39 @@ fn permitted(asked: Move, code: u8, service: u8) -> bool
     leads(code) & bits(asked, service) != 0
 }
 
+// Whether an engine write is permitted for some service type.
+fn permitted_for_some(to: State, code: u8) -> bool
+    ensures { λ r. ⌜ r ≡ permitsSome to code ⌝ }
+{
+    if permitted(Move::Engine(to), code, RC) {
+        return true;
+    }
+    if permitted(Move::Engine(to), code, UC) {
+        return true;
+    }
+    permitted(Move::Engine(to), code, UD)
+}
+
+// Whether the move is an engine write, permitted for some service type.
+fn for_some_type(asked: Move, code: u8) -> bool
+    ensures { λ r. ⌜ r ≡ forSomeType asked code ⌝ }
+{
+    match asked {
+        Move::Command(_) => false,
+        Move::Engine(to) => permitted_for_some(to, code),
+    }
+}
+
 // The decision, from the record's state code and service type.
 pub fn judge(asked: Move, code: u8, service: u8) -> EdgeVerdict
-    ensures { λ r. ⌜ (r ≡ judgeOf asked code service) × (edgeVerdictNumber r ≡ pick (permits asked code service) 0 0x85) ⌝ }
+    ensures { λ r. ⌜ (r ≡ judgeOf asked code service)
+        × (edgeVerdictNumber r ≡ pick (permits asked code service) 0 (pick (forSomeType asked code) 0x88 0x85)) ⌝ }
 {
     if permitted(asked, code, service) {
         return EdgeVerdict::Permitted;
+    }
+    if for_some_type(asked, code) {
+        return EdgeVerdict::NotForType;
     }
     EdgeVerdict::NotPermitted
 }

@@ -73,6 +73,7 @@ fn verdict_number(verdict: EdgeVerdict) -> u64
     match verdict {
         EdgeVerdict::Permitted => 0,
         EdgeVerdict::NotPermitted => 0x85,
+        EdgeVerdict::NotForType => 0x88,
     }
 }
 
@@ -193,7 +194,7 @@ fn engine_examples() {
     check_number(
         b"P11 engine RTS to SQE, RC",
         engine_write(RTS, RC, State::Sqe),
-        0x85,
+        0x88,
     );
 }
 

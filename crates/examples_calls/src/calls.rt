@@ -212,3 +212,8 @@ fn whole(before: Script, op: u16, index: u32) -> Script {
 pub fn ready() -> Script {
     whole(whole(open(), 0x19, 7), 0x1a, 7)
 }
+
+// Queue pair 7 in RTS.
+pub fn sending() -> Script {
+    whole(ready(), 0x1b, 7)
+}

@@ -14,6 +14,7 @@ use calls::open;
 use calls::read;
 use calls::ready;
 use calls::reset;
+use calls::sending;
 use calls::step;
 use calls::write;
 use checking::beside_read;
@@ -33,6 +34,8 @@ ghost use Rattle.hcr.specs.Register.{writeAnswerNumber};
 const RTR: u8 = 2;
 
 const RTS: u8 = 3;
+
+const SQE: u8 = 4;
 
 fn indices() {
     while_open(b"request 1 on QP 7", read(1, 7), 0);
@@ -348,6 +351,16 @@ fn denials() {
     while_open(b"0x1e in RESET", command(0x1e, 0).modified(3), 0x85);
     while_open(b"0x21 in RESET", command(0x21, 0).modified(3), 0x85);
     while_open(b"request 3 in RESET", write(3, 0, 0, RTS), 0x85);
+    in_rtr(
+        b"request 3 from RTR to SQE of RC",
+        write(3, 7, 0, SQE),
+        0x85,
+    );
+    check(
+        b"request 3 from RTS to SQE of RC",
+        sending().then(write(3, 7, 0, SQE)),
+        0x88,
+    );
     while_open(b"SW2HW for MPT 0 of software", command(0x0d, 0), 0);
     while_open(b"HW2SW for MPT 0 of software", command(0x0f, 0), 0x85);
 }

@@ -1,5 +1,6 @@
 // Each edge from each state: for every code that a record's word 00h can have as its state, 0 to 15,
-// and each type, the command edges and the engine writes that are permitted, one line for each.
+// and each type, the command edges and the engine writes that are permitted, one line for each, and
+// last the engine writes that are refused for the type, which get 0x88.
 use commands::Op;
 use commands::OpFound;
 use edges::Edge;
@@ -29,10 +30,12 @@ fn edge_of(op: u16) -> EdgeFound {
     EdgeFound::Edge(edge)
 }
 
-fn is_permitted(asked: Move, code: u8, service: u8) -> bool {
+// The number that a move gets.
+fn number(asked: Move, code: u8, service: u8) -> u8 {
     match edges::judge(asked, code, service) {
-        EdgeVerdict::Permitted => true,
-        EdgeVerdict::NotPermitted => false,
+        EdgeVerdict::Permitted => 0,
+        EdgeVerdict::NotPermitted => 0x85,
+        EdgeVerdict::NotForType => 0x88,
     }
 }
 
@@ -77,7 +80,7 @@ fn print_edge(any: bool, op: u16, code: u8, service: u8) -> bool {
         text(b"WRONG ");
         return any;
     };
-    if !is_permitted(Move::Command(edge), code, service) {
+    if number(Move::Command(edge), code, service) != 0 {
         return any;
     }
     print_before(any, b"commands ");
@@ -98,25 +101,25 @@ fn print_edges(ops: &[u16], code: u8, service: u8) {
     print_if_none(any, b"no command");
 }
 
-// Prints the state that an engine write leaves if the write is permitted.
-fn print_write(any: bool, to: State, code: u8, service: u8) -> bool {
-    if !is_permitted(Move::Engine(to), code, service) {
+// Prints the state that an engine write leaves, or would leave, if the write gets the number `wanted`.
+fn print_write(any: bool, to: State, code: u8, service: u8, wanted: u8, heading: &[u8]) -> bool {
+    if number(Move::Engine(to), code, service) != wanted {
         return any;
     }
-    print_before(any, b"engine writes ");
+    print_before(any, heading);
     print_name(edges::state_code(to));
     true
 }
 
-fn print_writes(code: u8, service: u8) {
-    let mut any = print_write(false, State::Reset, code, service);
-    any = print_write(any, State::Init, code, service);
-    any = print_write(any, State::Rtr, code, service);
-    any = print_write(any, State::Rts, code, service);
-    any = print_write(any, State::Sqe, code, service);
-    any = print_write(any, State::Sqd, code, service);
-    any = print_write(any, State::Err, code, service);
-    print_if_none(any, b"no engine write");
+// Answers whether any is printed.
+fn print_writes(code: u8, service: u8, wanted: u8, heading: &[u8]) -> bool {
+    let mut any = print_write(false, State::Reset, code, service, wanted, heading);
+    any = print_write(any, State::Init, code, service, wanted, heading);
+    any = print_write(any, State::Rtr, code, service, wanted, heading);
+    any = print_write(any, State::Rts, code, service, wanted, heading);
+    any = print_write(any, State::Sqe, code, service, wanted, heading);
+    any = print_write(any, State::Sqd, code, service, wanted, heading);
+    print_write(any, State::Err, code, service, wanted, heading)
 }
 
 fn print_code(code: u8) {
@@ -149,7 +152,9 @@ fn print_line(code: u8, service: u8, name: &[u8]) {
         service,
     );
     text(b"; ");
-    print_writes(code, service);
+    let any = print_writes(code, service, 0, b"engine writes ");
+    print_if_none(any, b"no engine write");
+    print_writes(code, service, 0x88, b"; 0x88 for ");
     text(b"\n");
 }
 

@@ -17,6 +17,7 @@ fn denial_number(cause: Denial) -> u8
 {
     match cause {
         Denial::Edge => 0x85,
+        Denial::ServiceType => 0x88,
         Denial::Owner => 0x85,
         Denial::Name => 3,
     }

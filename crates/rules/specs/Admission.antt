@@ -35,7 +35,8 @@ unfoldable pub decidePlace : Request → SlotFound → Decision
 decidePlace q (At k) = decide.Take q k
 decidePlace q Nothing = decide.Refuse cause.Full
 
--- The record permits the edge, or has the right owner (01, Numbers returned, 0x85); the cause of a denial is passed on.
+-- The record permits the edge, or has the right owner (01, Numbers returned, 0x85; 02, wish 5, 0x88 beside it); the cause of a denial is
+-- passed on.
 unfoldable pub decideVerdict : World → Request → Verdict → Decision
 decideVerdict w q Permitted = decidePlace q (lowestFree 0 (w .row))
 decideVerdict w q (Denied d) = decide.Refuse (cause.Denied d)

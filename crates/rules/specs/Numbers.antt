@@ -68,10 +68,11 @@ abbrev pub resetNumber : ResetAnswer → ℕ
 resetNumber reset.Done = 0
 resetNumber (reset.Refused c) = refusalNumber c
 
--- Which causes are the record's state: the edge is not permitted, or the owner is the wrong one (01, The plain book of demand 3); and a
--- name in the record is out of range (02, wish 2).
+-- Which causes are the record's state: the edge is not permitted, or the owner is the wrong one (01, The plain book of demand 3); the edge
+-- is not permitted for the record's service type (02, wish 5); and a name in the record is out of range (02, wish 2).
 abbrev pub ofState : Denial → Bool
 ofState denial.Edge = true
+ofState denial.ServiceType = true
 ofState denial.Owner = true
 ofState denial.Name = true
 

@@ -6,6 +6,7 @@ use mathlib.Core.List.{List, [], _∷_, _++_, map}
 use Prim.Native.Nat.{ℕ, _-_}
 use lib.Dec.{eqb}
 use lib.ListN.{getD, take, replicate}
+use Rattle.words.specs.Parts.{splice}
 use Rattle.context.specs.declared.Logs.{Logs}
 use Rattle.edges.specs.declared.State.the-variants.{Rtr}
 use Rattle.requests.specs.declared.PsnField.the-variants.{NextSend}
@@ -72,6 +73,10 @@ reading = worldAfter start (engineRequest 2 0 0 0)
 
 unfoldable pub hasRead : World
 hasRead = worldAfter (worldAfter reading (step 0)) (step 0)
+
+-- queue pair 0 is in RTS, of type RC
+abbrev pub inRts : World → World
+inRts w = withMemory w (memory (splice 0 (0x30 ∷ 0 ∷ []) (w .memory .store)))
 
 -- ---- the first 0x83 and 0x87, for each of the five calls: NOP, request 1, step, collection, reset
 
@@ -195,6 +200,16 @@ below87 =
     ∷ asks 0x22 1 [] gets (0x82 ∷ [])
     ∷ engineRequest 1 1 0 0 gets (0x82 ∷ [])
     ∷ [])
+    -- a write to SQE is for another type than RC: 0x88 stands where 0x85 does, behind the hold and before the full row (02, wish 5); no
+    -- command gets it, and no write that no type permits
+    ∷ within (inRts start)
+    (engineRequest 3 0 0 4 gets (0x88 ∷ [])
+    ∷ engineRequest 4 0 0x1000000 4 gets (3 ∷ [])
+    ∷ engineRequest 5 0 0 2 gets (0x85 ∷ [])
+    ∷ asks 0x1d 0 image gets (0x85 ∷ [])
+    ∷ [])
+    ∷ within (inRts reading) (engineRequest 3 0 0 4 gets (0x81 ∷ []) ∷ [])
+    ∷ within (inRts (rowed (replicate 8 (slot (Running 0 (readState 1)))))) (engineRequest 3 0 0 4 gets (0x88 ∷ []) ∷ [])
     -- nothing is under way: the modifiers and numbers before the mailbox's length, that before its content, that before the owner
     ∷ within start
     (asks 0x08 1 [] gets (3 ∷ [])

@@ -10,7 +10,8 @@ use Rattle.hcr.specs.Register.{paramAt, commandOf, wellFormed18, wellFormed, re
 use Rattle.context.specs.Init.{logsOf, initRows, initOf}
 use Rattle.context.specs.Layout.{rangesHold, fitsStore, isRecord, recordAt, bytesOf, sameRecord}
 use Rattle.edges.specs.States.{isService}
-use Rattle.edges.specs.Edges.{permitsEdge, isActive, writeKeeps, writeFails, isSending, writeStops, permitsWrite, judgeOf}
+use Rattle.edges.specs.Edges.{permitsEdge, isActive, writeKeeps, writeFails, isSending, writeStops, permitsWrite, permitsSome}
+use Rattle.edges.specs.Edges.{judgeOf}
 use Rattle.commands.specs.Commands.{readOp, readCommand}
 use Rattle.engines.specs.Engines.{readNumber, stateFrom, readEngine}
 use Rattle.requests.specs.declared.Request.{Request}
@@ -179,7 +180,7 @@ unfolding withFields logsOf initRows initOf rangesHold fitsStore isRecord record
 withRecords = tt
 
 unfoldable pub withEdges : Unit {0}
-unfolding permitsEdge isActive writeKeeps writeFails isSending writeStops permitsWrite judgeOf
+unfolding permitsEdge isActive writeKeeps writeFails isSending writeStops permitsWrite permitsSome judgeOf
 withEdges = tt
 
 unfoldable pub withRequests : Unit {0}

@@ -34,7 +34,8 @@ pub enum Refusal {
     BadContent,
     // A record is held against this request.
     Held,
-    // The record's state does not permit it: the edge, the owner, or a name in it that is out of range.
+    // The record's state does not permit it: the edge, the edge for its service type, the owner, or a
+    // name in it that is out of range.
     Denied(Denial),
     // All eight slots are occupied.
     Full,

@@ -7,6 +7,9 @@ use script_print::text;
 fn print_denial(denial: Denial) {
     match denial {
         Denial::Edge => text(b" the edge is not permitted"),
+        Denial::ServiceType => text(
+            b" the edge is permitted for another service type, but not for this one",
+        ),
         Denial::Owner => text(b" the record has the wrong owner"),
         Denial::Name => text(b" a name in the record is out of range"),
     }

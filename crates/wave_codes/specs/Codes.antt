@@ -50,8 +50,9 @@ lineCode keyword.Unknown = 0
 
 abbrev pub denialRow : Denial → ℕ
 denialRow denial.Edge = 14
-denialRow denial.Owner = 15
-denialRow denial.Name = 16
+denialRow denial.ServiceType = 15
+denialRow denial.Owner = 16
+denialRow denial.Name = 17
 
 abbrev pub refusalRow : Refusal → ℕ
 refusalRow refusal.BadLength = 1
@@ -68,7 +69,7 @@ refusalRow refusal.ShortMailbox = 11
 refusalRow refusal.BadContent = 12
 refusalRow refusal.Held = 13
 refusalRow (refusal.Denied d) = denialRow d
-refusalRow refusal.Full = 17
+refusalRow refusal.Full = 18
 
 abbrev pub rowCode : Cause → ℕ
 rowCode cause.None = 0

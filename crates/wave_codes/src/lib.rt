@@ -63,8 +63,9 @@ fn denial_row(denial: Denial) -> u64
 {
     match denial {
         Denial::Edge => 14,
-        Denial::Owner => 15,
-        Denial::Name => 16,
+        Denial::ServiceType => 15,
+        Denial::Owner => 16,
+        Denial::Name => 17,
     }
 }
 
@@ -86,7 +87,7 @@ fn refusal_row(refusal: Refusal) -> u64
         Refusal::BadContent => 12,
         Refusal::Held => 13,
         Refusal::Denied(denial) => denial_row(denial),
-        Refusal::Full => 17,
+        Refusal::Full => 18,
     }
 }
 

@@ -93,9 +93,10 @@ fn print_late_row(i: usize, code: u64) {
         12 => print_word(i, b"bad_content"),
         13 => print_word(i, b"record_held"),
         14 => print_word(i, b"edge_not_permitted"),
-        15 => print_word(i, b"wrong_owner"),
-        16 => print_word(i, b"name_out_of_range"),
-        17 => print_word(i, b"all_slots_occupied"),
+        15 => print_word(i, b"not_for_service_type"),
+        16 => print_word(i, b"wrong_owner"),
+        17 => print_word(i, b"name_out_of_range"),
+        18 => print_word(i, b"all_slots_occupied"),
         _ => print_word(i, b"-"),
     }
 }

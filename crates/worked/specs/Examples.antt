@@ -131,10 +131,10 @@ table =
     ∷ p 6 (readBack (readOf (register 0x00800019)) ++ submits 0x00800019 Reset ∷ []) (0x19 ∷ 0 ∷ 0 ∷ [])
     ∷ p 7 (readBack (readOf (register 0x0080301e)) ++ map (submits 0x0080301e) (Reset ∷ Init ∷ [])) (0x1e ∷ 3 ∷ 0x85 ∷ 0 ∷ [])
     ∷ p 8 (readBack (readOf (register 0x00900019)) ++ submits 0x00900019 Reset ∷ []) (3 ∷ 3 ∷ [])
-    -- an engine's write from RTR to SQE, whatever the type; from RTS to SQE for UD, and for RC
+    -- an engine's write from RTR to SQE, whatever the type; from RTS to SQE for UD, and for RC, which is refused for the type (02, wish 5)
     ∷ p 9 (engineWrite Rtr Sqe rc ∷ engineWrite Rtr Sqe uc ∷ engineWrite Rtr Sqe ud ∷ []) (0x85 ∷ 0x85 ∷ 0x85 ∷ [])
     ∷ p 10 (engineWrite Rts Sqe ud ∷ []) (0 ∷ [])
-    ∷ p 11 (engineWrite Rts Sqe rc ∷ []) (0x85 ∷ [])
+    ∷ p 11 (engineWrite Rts Sqe rc ∷ []) (0x88 ∷ [])
     -- the verdict's number, and word 84h: by the byte rule, by the book, and by the calls
     ∷ p 12
     (verdictNumber (permissionOf (writeExpected 0x20) before12)

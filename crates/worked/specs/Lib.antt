@@ -3,3 +3,4 @@
 pub mod Examples
 pub mod Worked
 pub mod Closing
+pub mod Types

@@ -143,13 +143,15 @@ impl Book {
         let starts = from.is_some_and(|from| KEPT.contains(&from));
         let ends = match to {
             State::Err => true,
-            State::Sqe if from != Some(State::Sqe) => {
-                from != Some(State::Rtr) && service_type(record) != RC
-            }
+            State::Sqe => from != Some(State::Rtr),
             _ => from == Some(to),
         };
         if !starts || !ends {
             return Err(Refusal::NotPermitted);
+        }
+        // Every other type than RC may leave RTS and SQD for SQE (02, wish 5).
+        if to == State::Sqe && from != Some(to) && service_type(record) == RC {
+            return Err(Refusal::NotForType);
         }
         set_state(record, to);
         record[at + 1..at + 4].copy_from_slice(&psn.to_be_bytes()[1..]);

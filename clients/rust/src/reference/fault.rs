@@ -42,4 +42,6 @@ faults! {
     JOINED_NOT_HELD = 26: "request 7 does not hold its event queue",
     CLASH_UNJUDGED = 27: "running slots whose holds clash are not judged",
     RESET_TO_ERR = 28: "0x1e is permitted from RESET",
+    TYPE_UNTOLD = 29: "an engine write that another service type permits gets 0x85",
+    TYPE_FROM_RTR = 30: "RTR to SQE of RC gets 0x88",
 }

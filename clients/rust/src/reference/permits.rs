@@ -3,6 +3,7 @@
 use super::commands::Op;
 use super::records::{
     is_service_type, service_type, state_code, word, Record, State, HARDWARE, OWNER_BYTE, RC,
+    SERVICE_TYPES,
 };
 use super::{fault, Hca, Request, Slot};
 use crate::{Refusal, SLOTS};
@@ -46,36 +47,57 @@ impl<const FAULT: u32> Hca<FAULT> {
         }
     }
 
-    /// Whether an engine write may set this state (01, "Engine requests").
+    /// Whether an engine write may set this state for a service type (01, "Engine requests").
     #[inline]
-    pub(super) fn engine_permits(record: &[u8], to: State) -> bool {
+    fn engine_permits(record: &[u8], service_type: u8, to: State) -> bool {
         let Some(from @ (State::Rtr | State::Rts | State::Sqd | State::Sqe)) =
             State::from_code(state_code(record))
         else {
             return false;
         };
         let to_sqe = matches!(from, State::Rts | State::Sqd)
-            && (service_type(record) != RC || FAULT == fault::RC_TO_SQE);
+            && (service_type != RC || FAULT == fault::RC_TO_SQE);
         to == from || to == State::Err || to == State::Sqe && to_sqe
     }
 
-    /// 0x81 before 0x85: the state of a record that is held may be half written.
+    /// Why the record's state refuses an engine write: one that is permitted for another service type but not for this one gets
+    /// 0x88 (02, wish 5).
+    #[inline]
+    pub(super) fn engine_denial(record: &[u8], to: State) -> Option<Refusal> {
+        let permitted = |service_type| Self::engine_permits(record, service_type, to);
+        if permitted(service_type(record)) {
+            return None;
+        }
+        let rtr_to_sqe = state_code(record) == State::Rtr as u8 && to == State::Sqe;
+        let for_type = match FAULT {
+            fault::TYPE_UNTOLD => false,
+            fault::TYPE_FROM_RTR if rtr_to_sqe => service_type(record) == RC,
+            _ => SERVICE_TYPES.into_iter().any(permitted),
+        };
+        Some(match for_type {
+            true => Refusal::NotForType,
+            false => Refusal::NotPermitted,
+        })
+    }
+
+    /// 0x81 before 0x85 and 0x88: the state of a record that is held may be half written.
     #[inline]
     pub(super) fn hold_then_state(
         &self,
         row: &[Slot; SLOTS],
         record: Record,
         alone: bool,
-        permitted: bool,
+        denial: Option<Refusal>,
     ) -> Result<(), Refusal> {
+        let state = denial.map_or(Ok(()), Err);
         if FAULT == fault::STATE_BEFORE_HOLD {
-            require(permitted, Refusal::NotPermitted)?;
+            state?;
         }
         require(!Self::held(row, record, alone), Refusal::Busy)?;
         if FAULT == fault::FULL_BEFORE_STATE {
             free_slot::<FAULT>(row)?;
         }
-        require(permitted, Refusal::NotPermitted)
+        state
     }
 
     /// Whether a running request holds the record against a reader, or against a writer that needs it alone.

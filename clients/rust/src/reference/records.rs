@@ -169,7 +169,10 @@ impl State {
 /// Service type RC, the one that may not go to SQE by an engine write.
 pub const RC: u8 = 0;
 
-/// Whether 0x19 accepts this service type: RC, UC or UD.
+/// The service types: RC, UC and UD.
+pub const SERVICE_TYPES: [u8; 3] = [RC, 1, 3];
+
+/// Whether 0x19 accepts this service type.
 pub fn is_service_type(code: u8) -> bool {
-    matches!(code, RC | 1 | 3)
+    SERVICE_TYPES.contains(&code)
 }

@@ -121,7 +121,8 @@ impl<const FAULT: u32> Hca<FAULT> {
         )?;
         let alone = op.writes() || FAULT == fault::QUERY_HOLDS_ALONE;
         let permitted = Self::permits(op, &store[self.logs.offset(record)..]);
-        self.hold_then_state(row, record, alone, permitted)
+        let denial = (!permitted).then_some(Refusal::NotPermitted);
+        self.hold_then_state(row, record, alone, denial)
             .inspect_err(|refusal| {
                 if FAULT == fault::REFUSAL_WRITES && *refusal == Refusal::NotPermitted {
                     room[..front.len()].copy_from_slice(front);
@@ -185,8 +186,8 @@ impl<const FAULT: u32> Hca<FAULT> {
         match engine {
             Engine::Write { state, .. } => {
                 let bytes = &store[self.logs.offset(record)..];
-                let permitted = Self::engine_permits(bytes, state);
-                self.hold_then_state(row, record, true, permitted)?;
+                let denial = Self::engine_denial(bytes, state);
+                self.hold_then_state(row, record, true, denial)?;
             }
             Engine::ReadJoined { .. } => {}
             _ => require(!Self::held(row, record, false), Refusal::Busy)?,

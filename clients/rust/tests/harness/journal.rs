@@ -76,7 +76,7 @@ impl Journal {
                 self.refusals += 1;
                 since.refused(call, number)?;
             }
-            Call::Command { .. } | Call::Engine { .. } if number == 0x85 => {
+            Call::Command { .. } | Call::Engine { .. } if [0x85, 0x88].contains(&number) => {
                 self.refusals += 1;
                 since.refused(call, number)?;
             }

@@ -330,6 +330,7 @@ quiet mail asksNothing c e = refl
 -- and every denial is
 of-state : (d : Denial) → ofState d ≡ true
 of-state denial.Edge = refl
+of-state denial.ServiceType = refl
 of-state denial.Owner = refl
 of-state denial.Name = refl
 
