@@ -1,5 +1,6 @@
 -- The order of the checks (01, Numbers returned): calls to which two rows of the table of refusals apply, and calls that one row just
--- refuses or just lets pass, each tried alone in a state that is handed in. The answers are written out by hand from document 01.
+-- refuses or just lets pass, each tried alone in a state that is handed in. The answers are written out by hand from document 01. Last,
+-- of each cause that is the record's state, that the journal has the refusal and that the book gives the same number.
 use mathlib.Core.Path.{_≡_, refl}
 use mathlib.Core.Bool.{Bool, true, false, not}
 use mathlib.Core.List.{List, [], _∷_, _++_, map}
@@ -22,7 +23,10 @@ use Rattle.slots.specs.declared.Status.the-variants.{Free, Running, Finished}
 use Rattle.rows.specs.Rows.{emptyRow}
 use Rattle.records.specs.Memory.{memory}
 use Rattle.rules.specs.World.{World, withHca, withRow, withMemory, withRoom, hcaOf}
+use Rattle.rules.specs.Book.{Book, bookNumber, gated}
 use Rattle.rules.specs.Calls.{Call, command, engineRequest, step, collection, resetting, answerTo, worldAfter}
+use Rattle.rules.specs.Calls.{Note, nothing, refused, accepted, finished, emptied, noteOf}
+use Rattle.rules.specs.Demand3.{bookOf}
 use Rattle.rules.specs.Frames.{refusedBy}
 use Rattle.rules.specs.Scripts.{Line, _gets_, callsOf, givenBy, shown, everything}
 use Rattle.rules.specs.Scripts.{storeThere, hcrOf, asks, initMail, image, before, start}
@@ -258,3 +262,31 @@ numbered l = map (λ (g : Group). map (λ (a : List ℕ). not (eqb (getD a 0 0) 
 pub refusals-are : refusals (handedIn ++ below87) ≡ numbered (handedIn ++ below87)
 unfolding everything commanded reading hasRead handedIn below87
 refusals-are = refl
+
+-- ---- Refusals because of the record's state (01, The plain book of demand 3; 02, wishes 2 and 5)
+
+-- the number that the journal gets, and the number that the book gives to what it is fed; nothing where the journal gets no refusal
+abbrev pub noteNumbers : Book → Note → List ℕ
+noteNumbers b nothing = []
+noteNumbers b (refused f n) = n ∷ bookNumber f b ∷ []
+noteNumbers b (accepted f k) = []
+noteNumbers b (finished f a) = []
+noteNumbers b (emptied k a) = []
+
+abbrev pub inBook : World → Call → List ℕ
+inBook w c = noteNumbers (bookOf w) (noteOf (w .hca .logs) c (answerTo w c))
+
+-- queue pair 0 names completion queue 2, which the store has not
+abbrev pub misnamed : World → World
+misnamed w = withMemory w (memory (splice 0x70 (0 ∷ 0 ∷ 0 ∷ 2 ∷ []) (w .memory .store)))
+
+-- an edge, an edge for the service type, an owner, a name; and a hold, which is not the record's state
+pub of-the-state : inBook (inRts start) (engineRequest 5 0 0 2)
+    ∷ inBook (inRts start) (engineRequest 3 0 0 4)
+    ∷ inBook start (asks 0x17 0 [])
+    ∷ inBook (misnamed start) (engineRequest 7 0 0 0)
+    ∷ inBook (inRts reading) (engineRequest 3 0 0 4)
+    ∷ []
+    ≡ (0x85 ∷ 0x85 ∷ []) ∷ (0x88 ∷ 0x88 ∷ []) ∷ (0x85 ∷ 0x85 ∷ []) ∷ (3 ∷ 3 ∷ []) ∷ [] ∷ []
+unfolding everything reading gated
+of-the-state = refl
