@@ -28,6 +28,7 @@ def own_files():
 
 
 def respelled(name):
+    name = name.replace("getD-", "get_or-")  # the library's name for it now
     if name[0].isupper():
         return re.sub(r"-", "_", name)
     words = re.sub(r"(?<=[a-z0-9'])[A-Z]", lambda m: "_" + m[0].lower(), name)

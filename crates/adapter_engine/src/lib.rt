@@ -1,4 +1,6 @@
 // The submission of an engine request over a row of slots that the caller lends.
+#![tactic(auto)]
+
 ghost use Rattle.std.specs.Prelude.{◌≡◌};
 ghost use Rattle.rules.specs.World.{world};
 ghost use Rattle.rules.specs.Admission.{submitted};

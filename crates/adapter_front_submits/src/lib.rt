@@ -1,4 +1,6 @@
 // The submissions over a lent row, for programs, as adapter_fronts has the other operations.
+#![tactic(auto)]
+
 ghost use Rattle.std.specs.Prelude.{◌≡◌, take, drop};
 ghost use Rattle.rules.specs.World.{world};
 ghost use Rattle.rules.specs.Admission.{submitted};

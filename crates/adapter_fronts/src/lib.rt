@@ -1,5 +1,7 @@
 // The operations over a lent row, for programs: each takes nine slots by value and lends the first `n`
 // of them, all nine at most, so that rows of any length up to nine are lent. What is not lent stays.
+#![tactic(auto)]
+
 ghost use Rattle.std.specs.Prelude.{◌≡◌, take, drop};
 ghost use Rattle.rules.specs.World.{world};
 ghost use Rattle.rules.specs.Steps.{stepped, step_of};

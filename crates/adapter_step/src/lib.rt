@@ -1,4 +1,6 @@
 // A step over a row of slots that the caller lends.
+#![tactic(auto)]
+
 ghost use Rattle.std.specs.Prelude.{◌≡◌};
 ghost use Rattle.rules.specs.World.{world};
 ghost use Rattle.rules.specs.Steps.{stepped, step_of};

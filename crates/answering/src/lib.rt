@@ -1,5 +1,7 @@
 // The answer of a slot's request, written from the slot's part of the room.
 // It needs no row, so that an operation can hold its slots as it likes.
+#![tactic(auto)]
+
 ghost use Rattle.std.specs.Prelude.{◌≡◌};
 ghost use Rattle.words.specs.Parts.{splice};
 ghost use Rattle.answers.specs.Answers.{answer_of};

@@ -1,5 +1,7 @@
 // The answer that collecting a request writes, read from the slot's part of the room. Every function here
 // is a leaf: its callers have tested the lengths.
+#![tactic(auto)]
+
 ghost use Rattle.std.specs.Prelude.{◌≡◌, ◌≤◌, length};
 ghost use Rattle.words.specs.Parts.{splice};
 ghost use Rattle.context.specs.Layout.{size_of};

@@ -1,5 +1,7 @@
 // The changes that an applied decision makes: the state closed, the records made zero and the state opened,
 // and a mailbox put into the room.
+#![tactic(auto)]
+
 ghost use Rattle.std.specs.Prelude.{◌≡◌, length};
 ghost use Rattle.words.specs.Parts.{part};
 ghost use Rattle.mailboxes.specs.Mailboxes.{need_of};

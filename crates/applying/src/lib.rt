@@ -1,4 +1,6 @@
 // A decision applied: the only place where a submission changes anything.
+#![tactic(auto)]
+
 ghost use Rattle.std.specs.Prelude.{◌≡◌, length};
 ghost use Rattle.rules.specs.World.{world};
 ghost use Rattle.rules.specs.Admission.{applied};

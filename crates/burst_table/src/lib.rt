@@ -1,4 +1,6 @@
 // The burst table: how many bursts a request moves, and where each of them lies; and the sizes of bursts and room.
+#![tactic(auto)]
+
 ghost use Rattle.std.specs.Prelude.{◌≡◌, [], ◌*◌, ◌<◌, length, get_or};
 ghost use Rattle.burst_table.specs.Sizes.{burst_size, slot_count, slot_start};
 ghost use Rattle.burst_table.specs.Bursts.{psn_place, command_bursts, engine_bursts, total_of, bursts_by, state_and_psn, offset_of};

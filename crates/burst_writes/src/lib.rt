@@ -1,5 +1,7 @@
 // The write of one burst of a record. The request is looked at once for the burst, and only the
 // bytes that it changes are stored; what is left is the byte rule on each byte of the burst.
+#![tactic(auto)]
+
 ghost use Rattle.std.specs.Prelude.{◌≡◌, ◌≤◌, length};
 ghost use Rattle.words.specs.Maps.{map_from};
 ghost use Rattle.mailboxes.specs.Mailboxes.{command_need, need_of};

@@ -6,8 +6,8 @@ use Rattle.std.proofs.Math.Path.{ap}
 use Rattle.std.proofs.Math.Decide.{dec_lt}
 use native.Mathlib.Omega.{arith}
 use Rattle.std.proofs.Math.ListN.{get_or}
-use Rattle.words.specs.Parts.{part, splice, length_part, get_d_part, length_splice, splice_below, splice_in, splice_above}
-use Rattle.words.specs.Maps.{map_from, length_map_from, get_d_map_from}
+use Rattle.words.specs.Parts.{part, splice, length_part, get_or_part, length_splice, splice_below, splice_in, splice_above}
+use Rattle.words.specs.Maps.{map_from, length_map_from, get_or_map_from}
 use Rattle.burst_table.specs.Sizes.{burst_size}
 use Rattle.burst_table.specs.Touched.{Inside, Touched, Fit, Fresh, Distinct, touched?}
 
@@ -55,8 +55,8 @@ module _ (f : ℕ → ℕ → ℕ) (j : ℕ) (c : List ℕ) (fit : burst_size * 
       let e : burst_size * j + (i - burst_size * j) ≡ i = omega arith in
       let k : i - burst_size * j < burst_size = omega arith in
       splice_in (burst_size * j) new c fits i w.0 (omega (arith, new_length))
-      ∙ get_d_map_from f (burst_size * j) old (i - burst_size * j) (omega (arith, old_length))
-      ∙ ap (λ (x : ℕ). f (burst_size * j + (i - burst_size * j)) x) (get_d_part (burst_size * j) burst_size c (i - burst_size * j) k)
+      ∙ get_or_map_from f (burst_size * j) old (i - burst_size * j) (omega (arith, old_length))
+      ∙ ap (λ (x : ℕ). f (burst_size * j + (i - burst_size * j)) x) (get_or_part (burst_size * j) burst_size c (i - burst_size * j) k)
       ∙ ap (λ (x : ℕ). f x (get_or c x 0)) e
 
   pub burst_out : (i : ℕ) → ¬ Inside i j → get_or (burst f j c) i 0 ≡ get_or c i 0
@@ -102,7 +102,7 @@ after_whole f js c h d k =
     same = length_after f js c h
 
     whole : (i : ℕ) → i < length c → get_or (map_from f 0 c) i 0 ≡ f i (get_or c i 0)
-    whole i l = get_d_map_from f 0 c i l ∙ ap (λ (x : ℕ). f x (get_or c i 0)) (zero-add i)
+    whole i l = get_or_map_from f 0 c i l ∙ ap (λ (x : ℕ). f x (get_or c i 0)) (zero-add i)
 
     each : (i : ℕ) → i < length c → Dec (Touched i js) → get_or (after f js c) i 0 ≡ get_or (map_from f 0 c) i 0
     each i l (yes t) = after_in f js c h d i t ∙ sym (whole i l)

@@ -2,7 +2,7 @@
 use Rattle.std.specs.Prelude.{◌≡◌, refl, List, [], ◌∷◌, ℕ, ◌+◌, ◌*◌, ◌-◌, ◌≤◌, ◌<◌, length, get_or}
 use Rattle.std.proofs.Common.{sym, ◌∙◌, ap, subst, inl, inr, arith}
 use Rattle.std.proofs.Math.Decide.{dec_lt}
-use Rattle.words.specs.Parts.{part, splice, length_part, get_d_part, length_splice, splice_below, splice_in, splice_above}
+use Rattle.words.specs.Parts.{part, splice, length_part, get_or_part, length_splice, splice_below, splice_in, splice_above}
 use Rattle.burst_table.specs.Sizes.{burst_size}
 use Rattle.burst_table.specs.Touched.{Inside, Touched, Fit, inside?}
 
@@ -29,7 +29,7 @@ module _ (j : ℕ) (c buf : List ℕ) (fit : burst_size * j + burst_size ≤ len
   copy_in i w =
       let e : burst_size * j + (i - burst_size * j) ≡ i = omega arith in
       splice_in (burst_size * j) (part (burst_size * j) burst_size c) buf fits i w.0 (omega (arith, long))
-      ∙ get_d_part (burst_size * j) burst_size c (i - burst_size * j) (omega arith) ∙ ap (λ (x : ℕ). get_or c x 0) e
+      ∙ get_or_part (burst_size * j) burst_size c (i - burst_size * j) (omega arith) ∙ ap (λ (x : ℕ). get_or c x 0) e
 
   pub copy_out : (i : ℕ) → ¬ Inside i j → get_or (copy j c buf) i 0 ≡ get_or buf i 0
   copy_out i n = go (dec_lt i (burst_size * j)) (dec_lt i (burst_size * j + burst_size))

@@ -1,5 +1,7 @@
 // The leaves that move one burst: a part of the store is changed as a request does, or copied to
 // the room.
+#![tactic(auto)]
+
 ghost use Rattle.std.specs.Prelude.{◌≡◌, length, ◌+◌, ◌%◌, ◌≤◌};
 ghost use Rattle.words.specs.Parts.{part};
 ghost use Rattle.mailboxes.specs.Mailboxes.{need_of};

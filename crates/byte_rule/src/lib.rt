@@ -1,5 +1,7 @@
 // What the byte rule of an edge asks: the words that it takes, whether it leaves zeros, and the state in
 // byte 0. `burst_writes` moves the bytes by it.
+#![tactic(auto)]
+
 ghost use Rattle.std.specs.Prelude.{◌≡◌, eqb};
 ghost use Rattle.words.specs.Choice.{within, either};
 ghost use Rattle.byte_rule.specs.Taken.{takes_word, zeroes};

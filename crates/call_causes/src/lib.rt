@@ -1,4 +1,6 @@
 // Why a call was refused, told of all five calls alike.
+#![tactic(auto)]
+
 ghost use Rattle.std.specs.Prelude.{◌≡◌};
 ghost use Rattle.call_causes.specs.Causes.{submit_cause, step_cause, collect_cause, reset_cause};
 

@@ -1,2 +1,3 @@
 // No code: the crate is its specs. Chains of calls of the five operations, each known by what its operation ensures, meet
 // demand 2's edges and demand 3.
+#![tactic(auto)]

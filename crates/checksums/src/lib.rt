@@ -1,4 +1,6 @@
 // Adler-32, the checksum of zlib (RFC 1950): two sums modulo 65521, the greatest prime below 2^16.
+#![tactic(auto)]
+
 ghost use Rattle.std.specs.Prelude.{◌≡◌, ◌+◌, ◌%◌, ◌<◌};
 ghost use Rattle.checksums.specs.Adler.{adler};
 

@@ -1,5 +1,7 @@
 // How a command is read: from its op to what is served, and from op_modifier and in_modifier to the
 // command.
+#![tactic(auto)]
+
 ghost use Rattle.std.specs.Prelude.{◌≡◌};
 ghost use Rattle.words.specs.Choice.{pick};
 ghost use Rattle.numbers.specs.Numbers.{qp_of, cq_of, eq_of, mpt_of};

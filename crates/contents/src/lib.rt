@@ -1,4 +1,6 @@
 // What a request asks of its mailbox. The mailbox is long enough: the callers have tested its length.
+#![tactic(auto)]
+
 ghost use Rattle.std.specs.Prelude.{◌≡◌, ◌≤◌, eqb, length};
 ghost use Rattle.words.specs.Words.{be32};
 ghost use Rattle.edges.specs.States.{is_service};

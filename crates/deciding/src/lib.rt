@@ -1,5 +1,7 @@
 // What is decided of a submission, from what is lent; nothing is changed. Here the end of both
 // decisions, and an engine request's; `deciding_joined` has that of a joined read.
+#![tactic(auto)]
+
 ghost use Rattle.std.specs.Prelude.{◌≡◌, List, ℕ};
 ghost use Rattle.possible.specs.declared.Hca.{Hca as State};
 ghost use Rattle.records.specs.Calls.{Stored};

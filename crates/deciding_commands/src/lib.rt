@@ -1,4 +1,6 @@
 // What is decided of a command, from its register bytes and its mailbox; nothing is changed.
+#![tactic(auto)]
+
 ghost use Rattle.std.specs.Prelude.{◌≡◌, List, ℕ};
 ghost use Rattle.rules.specs.World.{world};
 ghost use Rattle.rules.specs.Commands.{decide_register, decide_command};

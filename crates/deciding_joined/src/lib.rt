@@ -1,5 +1,7 @@
 // What is decided of a joined read, from what is lent; nothing is changed. Its records are asked for in
 // turn, since each is named in the one before it.
+#![tactic(auto)]
+
 ghost use Rattle.std.specs.Prelude.{◌≡◌, List, ℕ};
 ghost use Rattle.context.specs.declared.Record.TheVariants.{Qp};
 ghost use Rattle.possible.specs.declared.Hca.{Hca as State};

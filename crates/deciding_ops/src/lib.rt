@@ -1,4 +1,6 @@
 // What is decided of a command whose register is read, from its op and its mailbox; nothing is changed.
+#![tactic(auto)]
+
 ghost use Rattle.std.specs.Prelude.{◌≡◌, List, ℕ};
 ghost use Rattle.rules.specs.World.{world};
 ghost use Rattle.rules.specs.Commands.{decide_init, decide_found, decide_op};

@@ -17,7 +17,7 @@ use Rattle.possible.specs.declared.Hca.{Hca}
 use Rattle.device_bytes.specs.Decoding.{slot_place, status_of, slot_at, slots_of, row_of, hca_of}
 use Rattle.device_bytes.specs.Encoding.{header_bytes, hca_bytes, put_header}
 use Rattle.device_bytes.specs.RoundTrip.{header_round}
-use Rattle.device_bytes.specs.Walks.{length_slots, get_d_slots}
+use Rattle.device_bytes.specs.Walks.{length_slots, get_or_slots}
 
 pub length_header : (h : Hca) → length (hca_bytes h) ≡ 32
 unfolding header_bytes le_bytes
@@ -53,7 +53,7 @@ module _ (h : Hca) (dev : List ℕ) (sized : length dev ≡ 288) where
   slots_kept =
       ext_get_or (slot Free) (slots_of 8 (put_header h dev)) (slots_of 8 dev) (length_slots 8 (put_header h dev) ∙ sym (length_slots 8 dev))
       (λ j l. let l' : j < 8 = omega (arith, length_slots 8 (put_header h dev)) in
-      get_d_slots 8 (put_header h dev) j l' (lit≤ tt) ∙ slot_kept j l' ∙ sym (get_d_slots 8 dev j l' (lit≤ tt)))
+      get_or_slots 8 (put_header h dev) j l' (lit≤ tt) ∙ slot_kept j l' ∙ sym (get_or_slots 8 dev j l' (lit≤ tt)))
 
   pub row_put : get_or dev 0 0 ≤ 1 → row_of (put_header h dev) ≡ row_of dev
   unfolding row_of

@@ -8,7 +8,7 @@ use borrow.Author.Tests.{eq-eqb, le-ltb}
 use Rattle.std.proofs.Math.ListN.{get_or, length-set, get_or-eq_default}
 use Rattle.std.proofs.Math.Seq.{get_or-set_same, get_or-set_other}
 use Rattle.words.specs.Choice.{pick, by_pick}
-use Rattle.words.specs.Parts.{part, splice, part_agrees, get_d_part, length_part, length_splice, splice_below, splice_above, part_splice}
+use Rattle.words.specs.Parts.{part, splice, part_agrees, get_or_part, length_part, length_splice, splice_below, splice_above, part_splice}
 use Rattle.words.specs.Words.{le32, le_value, le_bytes}
 use Rattle.hcr.specs.Register.{bit}
 use Rattle.burst_table.specs.Bursts.{total_of}
@@ -25,7 +25,7 @@ use Rattle.device_bytes.specs.Decoding.{row_of, hca_of}
 use Rattle.device_bytes.specs.Encoding.{slot_bytes, request_bytes, status_bytes, status_code, moved_in, header_bytes, hca_bytes}
 use Rattle.device_bytes.specs.Encoding.{put_slot, put_moved, put_header}
 use Rattle.device_bytes.specs.RoundTrip.{slot_fits, slot_round, header_round}
-use Rattle.device_bytes.specs.Walks.{length_slots, get_d_slots}
+use Rattle.device_bytes.specs.Walks.{length_slots, get_or_slots}
 
 -- ---- one slot's bytes changed, the others as they were
 
@@ -58,13 +58,13 @@ module _ {k : ℕ} {dev after : List ℕ} (one : OneSlot k dev after) where
       ext_get_or (slot Free) (slots_of 8 after) (set (slots_of 8 dev) k (slot_at k after))
       (length_slots 8 after ∙ sym (length-set (slots_of 8 dev) k (slot_at k after) ∙ length_slots 8 dev))
       (λ j h. let h' : j < 8 = omega (arith, length_slots 8 after) in
-      get_d_slots 8 after j h' (lit≤ tt) ∙ each j h' (ℕ_discrete j k))
+      get_or_slots 8 after j h' (lit≤ tt) ∙ each j h' (ℕ_discrete j k))
     where
       each : (j : ℕ) → j < 8 → Dec (j ≡ k) → slot_at j after ≡ get_or (set (slots_of 8 dev) k (slot_at k after)) j (slot Free)
       each j h (yes e) =
           rw e (sym (get_or-set_same (slots_of 8 dev) k (slot_at k after) (slot Free) (omega (arith, length_slots 8 dev, one.below))))
       each j h (no e) =
-          slot_kept j h e ∙ sym (get_or-set_other (slots_of 8 dev) k j (slot_at k after) (slot Free) e ∙ get_d_slots 8 dev j h (lit≤ tt))
+          slot_kept j h e ∙ sym (get_or-set_other (slots_of 8 dev) k j (slot_at k after) (slot Free) e ∙ get_or_slots 8 dev j h (lit≤ tt))
 
   byte_kept : (i : ℕ) → i < 32 → get_or after i 0 ≡ get_or dev i 0
   byte_kept i h = one.others i (inl (omega arith))
@@ -247,9 +247,9 @@ module _ (k : ℕ) (s : Slot) (dev : List ℕ) (eight : k < 8) (sized : length d
       each : (i : ℕ) → ¬ (i ≡ 0) → ¬ (i ≡ 2) → Dec (i < 32)
           → get_or (part (slot_place k) 32 (put_moved k s dev)) i 0 ≡ get_or (part (slot_place k) 32 dev) i 0
       each i n o (yes h) =
-          get_d_part (slot_place k) 32 (put_moved k s dev) i h
+          get_or_part (slot_place k) 32 (put_moved k s dev) i h
           ∙ moved_other (slot_place k + i) (λ e. n (omega arith)) (λ e. o (omega arith))
-          ∙ sym (get_d_part (slot_place k) 32 dev i h)
+          ∙ sym (get_or_part (slot_place k) 32 dev i h)
       each i n o (no h) =
           past (part (slot_place k) 32 (put_moved k s dev)) (length_part (slot_place k) 32 (put_moved k s dev) (omega (arith, length_moved)))
           ∙ sym (past (part (slot_place k) 32 dev) (length_part (slot_place k) 32 dev (omega (arith, sized))))
@@ -263,10 +263,10 @@ module _ (k : ℕ) (s : Slot) (dev : List ℕ) (eight : k < 8) (sized : length d
   unfolding slot_at status_of
   slot_moved_lem =
       let e : get_or (part (slot_place k) 32 (put_moved k s dev)) 0 0 ≡ status_code s.status =
-      get_d_part (slot_place k) 32 (put_moved k s dev) 0 (lit< tt)
+      get_or_part (slot_place k) 32 (put_moved k s dev) 0 (lit< tt)
       ∙ ap (λ (i : ℕ). get_or (put_moved k s dev) i 0) (add-zero (slot_place k)) ∙ moved_code in
       let f : get_or (part (slot_place k) 32 (put_moved k s dev)) 2 0 ≡ moved_in s.status =
-      get_d_part (slot_place k) 32 (put_moved k s dev) 2 (lit< tt) ∙ moved_count in
+      get_or_part (slot_place k) 32 (put_moved k s dev) 2 (lit< tt) ∙ moved_count in
       rw (e, f, request_kept)
 
 -- A running slot, one burst further: its other bytes stay.

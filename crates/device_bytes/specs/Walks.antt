@@ -2,7 +2,7 @@
 use Rattle.std.specs.Prelude.{◌≡◌, refl, List, [], ◌∷◌, ℕ, zero, suc, ◌+◌, ◌*◌, ◌≤◌, ◌<◌, length, get_or, set, replicate}
 use Rattle.std.proofs.Common.{sym, ◌∙◌, ap, add-zero, add-one, arith, lit<, get_or-set_same, get_or-set_other, length-set}
 use Rattle.std.proofs.Math.Decide.{ℕ_discrete}
-use Rattle.words.specs.Parts.{part, get_d_part}
+use Rattle.words.specs.Parts.{part, get_or_part}
 use Rattle.rows.specs.Rows.{empty_row}
 use Rattle.slots.specs.Slots.{slot}
 use Rattle.slots.specs.declared.Slot.{Slot}
@@ -16,10 +16,10 @@ length_slots (suc n) dev = length-set (slots_of n dev) n (slot_at n dev) ∙ len
 
 -- ---- slots that are read
 
-pub get_d_slots : (n : ℕ) (dev : List ℕ) (j : ℕ) → j < n → n ≤ 8 → get_or (slots_of n dev) j (slot Free) ≡ slot_at j dev
+pub get_or_slots : (n : ℕ) (dev : List ℕ) (j : ℕ) → j < n → n ≤ 8 → get_or (slots_of n dev) j (slot Free) ≡ slot_at j dev
 unfolding slots_of
-get_d_slots zero dev j h k = absurd (omega arith)
-get_d_slots (suc n) dev j h k = go (ℕ_discrete j n) (λ l. get_d_slots n dev j l (omega arith))
+get_or_slots zero dev j h k = absurd (omega arith)
+get_or_slots (suc n) dev j h k = go (ℕ_discrete j n) (λ l. get_or_slots n dev j l (omega arith))
   where
     go : Dec (j ≡ n) → (j < n → get_or (slots_of n dev) j (slot Free) ≡ slot_at j dev)
         → get_or (set (slots_of n dev) n (slot_at n dev)) j (slot Free) ≡ slot_at j dev
@@ -60,7 +60,7 @@ pub free_read : (k : ℕ) (dev : List ℕ) → get_or dev (32 + k * 32) 0 ≡ 0 
 unfolding slot_at status_of
 free_read k dev e =
     let f : get_or (part (slot_place k) 32 dev) 0 0 ≡ 0 =
-    get_d_part (slot_place k) 32 dev 0 (lit< tt) ∙ ap (λ (i : ℕ). get_or dev i 0) (add-zero (slot_place k)) ∙ e in
+    get_or_part (slot_place k) 32 dev 0 (lit< tt) ∙ ap (λ (i : ℕ). get_or dev i 0) (add-zero (slot_place k)) ∙ e in
     rw f
 
 -- A free slot is in the row already.

@@ -49,7 +49,7 @@ use Rattle.device_bytes.specs.RoundTrip.{slot_fits, header_round}
 use Rattle.device_bytes.specs.Rewritten.{row_put, one_put, one_moved, hca_kept, row_moved}
 use Rattle.device_bytes.specs.Headers.{length_small, hca_put}
 use Rattle.device_bytes.specs.Headers as headers
-use Rattle.device_bytes.specs.Walks.{length_slots, get_d_slots}
+use Rattle.device_bytes.specs.Walks.{length_slots, get_or_slots}
 use Rattle.device_calls.specs.Calls.{world_of, slot_in, submit_left, command_call, engine_call, step_left, step_call}
 use Rattle.device_calls.specs.Calls.{collect_left, collect_call, reset_left, reset_call}
 use Rattle.device_calls.specs.Accepted.{PsnFits, takes, command_psn, engine_psn, request_fits}
@@ -88,7 +88,7 @@ module _ (dev : List ℕ) (l : length dev ≡ 288) (o : get_or dev 0 0 ≤ 1) wh
   row_eight = ap length row_is ∙ length_slots 8 dev
 
   pub slot_is : (k : ℕ) → k < 8 → slot_in (row_of dev) k ≡ slot_at k dev
-  slot_is k h = ap (λ (row : List Slot). slot_in row k) row_is ∙ get_d_slots 8 dev k h (lit≤ tt)
+  slot_is k h = ap (λ (row : List Slot). slot_in row k) row_is ∙ get_or_slots 8 dev k h (lit≤ tt)
 
 -- ---- a step
 

@@ -14,7 +14,7 @@ use Rattle.rules.specs.World.{World, status_at, bad_row, bad_store, bad_lent, ba
 use Rattle.rules.specs.Laws.Decided.{Passing}
 use Rattle.lengths.specs.Lengths.{lengths_wrong, lengths_lent}
 use Rattle.device_bytes.specs.Decoding.{slot_at, slots_of, broken, row_of, hca_of}
-use Rattle.device_bytes.specs.Walks.{length_slots, get_d_slots}
+use Rattle.device_bytes.specs.Walks.{length_slots, get_or_slots}
 use Rattle.device_calls.specs.Calls.{world_of, slot_in}
 use Rattle.device_calls.specs.Decodes.{lent_device, flag_right, slot_is}
 

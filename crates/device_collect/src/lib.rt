@@ -1,4 +1,6 @@
 // Collecting a slot, with the row of slots by value.
+#![tactic(auto)]
+
 ghost use Rattle.std.specs.Prelude.{◌≡◌, List, ℕ};
 ghost use Rattle.possible.specs.declared.Hca.{Hca};
 ghost use Rattle.handed_back.specs.Handed.{collect_handed, collect_refusal};

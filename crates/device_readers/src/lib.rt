@@ -1,4 +1,6 @@
 // The state and the row from the C interface's device, 288 bytes.
+#![tactic(auto)]
+
 ghost use Rattle.std.specs.Prelude.{◌≡◌, ◌^◌, ◌<◌, length, replicate};
 ghost use Rattle.slots.specs.Slots.{slot};
 ghost use Rattle.device_bytes.specs.Decoding.{broken, row_of, hca_of};

@@ -1,4 +1,6 @@
 // Reset, with the row of slots by value.
+#![tactic(auto)]
+
 ghost use Rattle.std.specs.Prelude.{◌≡◌};
 ghost use Rattle.handed_back.specs.Handed.{reset_handed};
 ghost use Rattle.rules.specs.World.{world};

@@ -9,7 +9,7 @@ use Rattle.std.proofs.Math.Decide.{ℕ_discrete}
 use borrow.Author.Tests.{eq-eqb, ne_eqb}
 use Rattle.words.specs.Choice.{pick, either, by_pick}
 use Rattle.words.specs.Tests.{both_false}
-use Rattle.words.specs.Parts.{part, get_d_part, part_part}
+use Rattle.words.specs.Parts.{part, get_or_part, part_part}
 use Rattle.words.specs.Words.{le32, le_value}
 use Rattle.context.specs.Layout.{kind_of, kind_code, number_of, same_record}
 use Rattle.context.specs.declared.Record.{Record}
@@ -184,10 +184,10 @@ module _ (w : Bool) (X : Record) where
       b = part (slot_place k) 32 dev
 
       status : get_or b 0 0 ≡ get_or dev (slot_place k) 0
-      status = get_d_part (slot_place k) 32 dev 0 (lit< tt) ∙ ap (λ (i : ℕ). get_or dev i 0) (add-zero (slot_place k))
+      status = get_or_part (slot_place k) 32 dev 0 (lit< tt) ∙ ap (λ (i : ℕ). get_or dev i 0) (add-zero (slot_place k))
 
       op_byte : get_or b 4 0 ≡ get_or dev (slot_place k + 4) 0
-      op_byte = get_d_part (slot_place k) 32 dev 4 (lit< tt)
+      op_byte = get_or_part (slot_place k) 32 dev 4 (lit< tt)
 
       go : Dec (get_or dev (slot_place k) 0 ≡ 1) → Dec (le32 (slot_place k + 8) dev ≡ number_of X) → Dec (get_or dev (slot_place k + 4) 0 ≡ 7)
           → Clear (status_of b)

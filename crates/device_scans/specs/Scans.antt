@@ -13,7 +13,7 @@ use Rattle.rows.specs.declared.SlotFound.{SlotFound}
 use Rattle.rows.specs.declared.SlotFound.TheVariants.{At, Nothing}
 use Rattle.holds.specs.Holds.{clash_slot}
 use Rattle.device_bytes.specs.Decoding.{slot_place, slot_at, slots_of, row_of}
-use Rattle.device_bytes.specs.Walks.{length_slots, get_d_slots, free_read}
+use Rattle.device_bytes.specs.Walks.{length_slots, get_or_slots, free_read}
 use Rattle.judging.specs.Device.{some_occupied, slots_are}
 use Rattle.device_scans.specs.Passed.{may_hold, passed}
 
@@ -24,7 +24,7 @@ pub record HasRow (dev : List ℕ) : Type 0 where
 
 module _ (dev : List ℕ) where
   slot_is : (k : ℕ) → k < 8 → get_or (slots_of 8 dev) k (slot Free) ≡ slot_at k dev
-  slot_is k h = get_d_slots 8 dev k h (lit≤ tt)
+  slot_is k h = get_or_slots 8 dev k h (lit≤ tt)
 
   -- ---- the lowest free slot
 

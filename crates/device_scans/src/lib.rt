@@ -1,5 +1,7 @@
 // What a submission's decision asks of the row, from the device's bytes: the lowest free slot, and whether a record is held. A slot is
 // decoded only if it may hold the record.
+#![tactic(auto)]
+
 ghost use Rattle.std.specs.Prelude.{◌≡◌, ◌∷◌, [], ◌<◌, length};
 ghost use Rattle.rows.specs.Rows.{any_slot, lowest_free};
 ghost use Rattle.holds.specs.Holds.{clash_slot};

@@ -1,4 +1,6 @@
 // A step, with the row of slots by value.
+#![tactic(auto)]
+
 ghost use Rattle.std.specs.Prelude.{◌≡◌};
 ghost use Rattle.handed_back.specs.Handed.{step_handed, step_refusal};
 ghost use Rattle.rules.specs.World.{world};

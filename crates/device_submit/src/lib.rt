@@ -1,4 +1,6 @@
 // The two submissions, with the row of slots by value: decided, then applied.
+#![tactic(auto)]
+
 ghost use Rattle.std.specs.Prelude.{◌≡◌};
 ghost use Rattle.rules.specs.World.{world};
 ghost use Rattle.rules.specs.Commands.{submit_command};

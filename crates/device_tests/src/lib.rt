@@ -1,4 +1,6 @@
 // The first tests of every exported call but reset: the lengths of what is lent, and the state.
+#![tactic(auto)]
+
 ghost use Rattle.std.specs.Prelude.{◌≡◌};
 ghost use Rattle.device_calls.specs.Tests.{first_number};
 

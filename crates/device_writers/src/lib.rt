@@ -1,5 +1,7 @@
 // What the C interface's operations change in its device of 288 bytes beside a whole slot: a slot's
 // status and bursts moved, and the header.
+#![tactic(auto)]
+
 ghost use Rattle.std.specs.Prelude.{◌≡◌, ◌/◌, ◌%◌, ◌^◌, ◌<◌, length};
 ghost use Rattle.hcr.specs.Register.{bit};
 ghost use Rattle.device_bytes.specs.Encoding.{status_code, moved_in, header_bytes, put_moved, put_header};

@@ -1,6 +1,8 @@
 // The C interface: the functions that libecgslope.a exports, on numbers and lent bytes. What each does
 // stands in the crate that it calls; include/ecgslope.h declares them for C. None has a `requires`: any
 // bytes may be lent.
+#![tactic(auto)]
+
 ghost use Rattle.std.specs.Prelude.{◌≡◌};
 ghost use Rattle.device_calls.specs.Calls.{left, command_call, engine_call, step_call, taken, collect_call, emptied, reset_call};
 ghost use Rattle.register_calls.specs.Calls.{left as kept, read_call, write_call};

@@ -1,4 +1,6 @@
 // One burst of an edge, and the state in a queue pair's record.
+#![tactic(auto)]
+
 ghost use Rattle.std.specs.Prelude.{◌≡◌, ◌≤◌, length};
 ghost use Rattle.words.specs.Maps.{map_from};
 ghost use Rattle.mailboxes.specs.Mailboxes.{edge_need};

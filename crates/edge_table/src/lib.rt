@@ -1,5 +1,7 @@
 // The table of edges, entry by entry: for which service types a move may leave a state code. It is
 // read off the edge decision.
+#![tactic(auto)]
+
 ghost use Rattle.std.specs.Prelude.{◌≡◌};
 ghost use Rattle.edge_table.specs.Table.{entry_of};
 

@@ -1,4 +1,6 @@
 // Which moves of a queue pair's state are permitted: by a command's edge, and by an engine write.
+#![tactic(auto)]
+
 ghost use Rattle.std.specs.Prelude.{◌≡◌};
 ghost use Rattle.words.specs.Choice.{pick};
 ghost use Rattle.edges.specs.States.{state_code, is_service};

@@ -1,5 +1,7 @@
 // How an engine request is read: from its number to what is served, and from index, PSN and state to
 // the request.
+#![tactic(auto)]
+
 ghost use Rattle.std.specs.Prelude.{◌≡◌};
 ghost use Rattle.words.specs.Choice.{pick};
 ghost use Rattle.engines.specs.Engines.{read_number, state_from, engine_write_of, engine_on, read_engine};

@@ -1,5 +1,6 @@
 // How the programs that run document 01's examples print one: its label, what the model answers, what
 // 01 gives, and whether the two are the same.
+#![tactic(auto)]
 
 pub fn print_expected() {
     io::write_all(1, b", expected ");

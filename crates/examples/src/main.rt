@@ -1,5 +1,7 @@
 // Runs document 01's examples P1 to P11, with the logarithms 3, 2, 1, 2 throughout, and prints for
 // each what the model answers and what 01 gives.
+#![tactic(auto)]
+
 ghost use Rattle.std.specs.Prelude.{◌≡◌};
 ghost use Rattle.context.specs.Init.{init_found_number};
 ghost use Rattle.edges.specs.Edges.{edge_verdict_number};

@@ -2,6 +2,8 @@
 // table of numbers returned, in its order, with those of the joined read (document 02, wish 2), and
 // prints for each what the device answers and what the documents give. The number is the answer of
 // the example's last call.
+#![tactic(auto)]
+
 mod calls;
 mod checking;
 mod device;

@@ -1,6 +1,8 @@
 // Each edge from each state: for every code that a record's word 00h can have as its state, 0 to 15,
 // and each type, the command edges and the engine writes that are permitted, one line for each, and
 // last the engine writes that are refused for the type, which get 0x88.
+#![tactic(auto)]
+
 use commands::{Op, OpFound};
 use edges::{Edge, EdgeVerdict, Move, State};
 

@@ -1,5 +1,7 @@
 // A submission's decision applied to the bytes that the C interface is lent: the only place where an
 // exported submission changes anything.
+#![tactic(auto)]
+
 ghost use Rattle.std.specs.Prelude.{◌≡◌, ◌+◌, ◌*◌, ◌<◌, length};
 ghost use Rattle.words.specs.Parts.{part};
 ghost use Rattle.mailboxes.specs.Mailboxes.{need_of};

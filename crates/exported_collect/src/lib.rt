@@ -1,4 +1,6 @@
 // A collection, on the bytes that the C interface is lent.
+#![tactic(auto)]
+
 ghost use Rattle.std.specs.Prelude.{◌≡◌, List, ℕ, ◌≤◌};
 ghost use Rattle.rules.specs.World.{status_at};
 ghost use Rattle.rules.specs.Collections.{collect_on};

@@ -1,4 +1,6 @@
 // The submission of a command, on the bytes that the C interface is lent.
+#![tactic(auto)]
+
 ghost use Rattle.std.specs.Prelude.{◌≡◌, ◌≤◌, length};
 ghost use Rattle.hcr.specs.Register.{read_of};
 ghost use Rattle.rules.specs.Admission.{applied};

@@ -1,4 +1,6 @@
 // The submission of an engine request, on the bytes that the C interface is lent.
+#![tactic(auto)]
+
 ghost use Rattle.std.specs.Prelude.{◌≡◌, List, [], ℕ};
 ghost use Rattle.engines.specs.Engines.{read_number};
 ghost use Rattle.rules.specs.World.{world};

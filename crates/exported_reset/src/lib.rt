@@ -1,4 +1,6 @@
 // Reset, on the bytes that the C interface is lent.
+#![tactic(auto)]
+
 ghost use Rattle.std.specs.Prelude.{◌≡◌};
 ghost use Rattle.device_calls.specs.Calls.{emptied, reset_call};
 

@@ -9,7 +9,7 @@ use Rattle.std.proofs.Math.Decide.{dec_lt}
 use native.Mathlib.Omega.{arith}
 use borrow.Author.Tests.{eqb-true, eq-eqb, ne_eqb, lt-ltb, le-ltb}
 use Rattle.words.specs.Choice.{pick, both}
-use Rattle.words.specs.Parts.{part, get_d_part, part_part}
+use Rattle.words.specs.Parts.{part, get_or_part, part_part}
 use Rattle.words.specs.Words.{le32, le_value}
 use Rattle.context.specs.declared.Logs.{Logs}
 use Rattle.context.specs.declared.Record.{Record}
@@ -88,7 +88,7 @@ head {kind = kind} {number = number} k dev t =
     }
   where
     byte : (i : ℕ) → i < 32 → get_or (bytes_at k dev) i 0 ≡ get_or dev (slot_place k + i) 0
-    byte i h = get_d_part (slot_place k) 32 dev i h
+    byte i h = get_or_part (slot_place k) 32 dev i h
 
 -- the request that it has
 abbrev request_from : ℕ → ℕ → ℕ → ℕ → ℕ → ℕ → ℕ → RequestFound
@@ -118,7 +118,7 @@ module _ (n c e psn state : ℕ) (small : n < 2 ^ 32) where
 runs_it : {kind number : ℕ} (k : ℕ) (dev : List ℕ) → Head kind number (bytes_at k dev) → (q : Request)
     → request_in (bytes_at k dev) ≡ found.Request q → slot_at k dev ≡ slot (Running (get_or dev (slot_place k + 2) 0) q)
 unfolding slot_at status_of
-runs_it k dev h q e = rw (h.status, e, get_d_part (slot_place k) 32 dev 2 (lit< tt))
+runs_it k dev h q e = rw (h.status, e, get_or_part (slot_place k) 32 dev 2 (lit< tt))
 
 -- ---- two requests that read the same
 

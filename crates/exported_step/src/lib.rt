@@ -1,4 +1,6 @@
 // A step, on the bytes that the C interface is lent.
+#![tactic(auto)]
+
 ghost use Rattle.std.specs.Prelude.{◌≡◌, ◌*◌, ◌-◌, ◌<◌, eqb, length};
 ghost use Rattle.words.specs.Choice.{pick};
 ghost use Rattle.records.specs.Calls.{qp_read, joined_read};

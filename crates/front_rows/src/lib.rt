@@ -1,4 +1,6 @@
 // The front of a row of nine slots: how many of them a wrapper lends.
+#![tactic(auto)]
+
 ghost use Rattle.std.specs.Prelude.{◌≡◌, min};
 
 // As many as are asked for, and all nine at most.

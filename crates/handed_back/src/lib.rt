@@ -1,6 +1,8 @@
 // What each operation hands back. Of the row that is its answer alone and the one slot that may have
 // changed, with its place, so that a caller stores one slot and not eight; where no slot changed it is
 // slot 0 as it was. What is handed back says of the world afterwards is defined in specs/.
+#![tactic(auto)]
+
 use possible::Hca;
 use rules::{CollectAnswer, ResetAnswer, StepAnswer, SubmitAnswer};
 use slots::Slot;

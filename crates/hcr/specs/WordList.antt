@@ -5,7 +5,7 @@ use Rattle.std.proofs.Math.Decide.{dec_lt}
 use Rattle.std.proofs.Math.ListN.{get_or-eq_default}
 use Rattle.std.proofs.Math.Seq.{split_at}
 use Rattle.words.specs.Leaves.{le_four, le32_is}
-use Rattle.words.specs.Parts.{part, splice, length_part, get_d_part}
+use Rattle.words.specs.Parts.{part, splice, length_part, get_or_part}
 use Rattle.words.specs.Words.{AreBytes, le_value, le_bytes, le32, le_round, le_back, length_le_bytes}
 use Rattle.hcr.specs.declared.HcrCommand.{HcrCommand}
 use Rattle.hcr.specs.Register.{le_words, words_of, register_of}
@@ -91,7 +91,7 @@ pub bytes_part : (at n : ℕ) (l : List ℕ) → at + n ≤ length l → AreByte
 bytes_part at n l h a i = each (dec_lt i n)
   where
     each : Dec (i < n) → get_or (part at n l) i 0 < 256
-    each (yes y) = rw get_d_part (a (at + i))
+    each (yes y) = rw get_or_part (a (at + i))
     each (no y) =
         let e : length (part at n l) ≤ i = omega (arith, length_part at n l h) in
         rw (get_or-eq_default (part at n l) 0 e) (lit< tt)

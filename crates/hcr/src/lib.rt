@@ -1,5 +1,6 @@
 // The command register (HCR): 28 bytes, seven little-endian 32-bit words. The command that it has,
 // and what reading and writing it give.
+#![tactic(auto)]
 
 #[derive(Drop)]
 pub struct HcrCommand {

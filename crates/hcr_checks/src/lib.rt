@@ -1,4 +1,6 @@
 // Whether the command register is well formed: fields of its words by shifts and masks.
+#![tactic(auto)]
+
 ghost use Rattle.std.specs.Prelude.{◌≡◌, ◌≤◌, length};
 ghost use Rattle.words.specs.Words.{bits};
 ghost use Rattle.hcr.specs.Register.{well_formed18, well_formed};

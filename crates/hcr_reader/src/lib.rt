@@ -1,4 +1,6 @@
 // The command register read: the fields of its words by shifts and masks.
+#![tactic(auto)]
+
 ghost use Rattle.std.specs.Prelude.{◌≡◌, ◌+◌, ◌*◌, ◌^◌, ◌≤◌, length};
 ghost use Rattle.words.specs.Words.{bits};
 ghost use Rattle.hcr.specs.Register.{param_at, command_of, read_rows, read_of, read_answer_number};

@@ -1,4 +1,6 @@
 // The command register written: the fields of a command joined into its words.
+#![tactic(auto)]
+
 ghost use Rattle.std.specs.Prelude.{◌≡◌, ◌+◌, ◌/◌, ◌%◌, ◌^◌, ◌≤◌, ◌∷◌, [], length};
 ghost use Rattle.words.specs.Parts.{splice};
 ghost use Rattle.hcr.specs.Register.{bit, le_words, word14, word18, register_of, write_rows, write_of, written_of};

@@ -1,4 +1,6 @@
 // What a running request holds, as numbers that are quick to compare (01, Bursts, slots and holds).
+#![tactic(auto)]
+
 ghost use Rattle.std.specs.Prelude.{◌≡◌};
 ghost use Rattle.hold_codes.specs.Codes.{no_hold, has_code};
 

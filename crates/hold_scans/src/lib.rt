@@ -1,4 +1,6 @@
 // The scan of the row's slots against a request's records.
+#![tactic(auto)]
+
 ghost use Rattle.std.specs.Prelude.{◌≡◌, ◌≤◌, drop};
 ghost use Rattle.request_table.specs.Records.{list_of};
 ghost use Rattle.rows.specs.Rows.{any_slot};

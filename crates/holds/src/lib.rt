@@ -1,1 +1,2 @@
 // Who holds which record, and against which requests.
+#![tactic(auto)]

@@ -6,7 +6,7 @@ use Rattle.std.proofs.lemmas.Bool.{false≢true}
 use borrow.Author.Tests.{not-true, not-false, lt-ltb, le-ltb, ne_eqb}
 use Rattle.std.proofs.Math.ListN.{get_or}
 use Rattle.words.specs.Choice.{pick}
-use Rattle.words.specs.Parts.{part, get_d_part}
+use Rattle.words.specs.Parts.{part, get_or_part}
 use Rattle.context.specs.Layout.{fits_store}
 use Rattle.slots.specs.Slots.{slot, occupied_status, is_occupied}
 use Rattle.slots.specs.declared.Slot.{Slot}
@@ -20,7 +20,7 @@ use Rattle.possible.specs.declared.Hca.{Hca}
 use Rattle.slot_requests.specs.declared.RequestFound.{RequestFound}
 use Rattle.slot_requests.specs.declared.RequestFound.TheVariants.{Request, Wrong}
 use Rattle.device_bytes.specs.Decoding.{slot_place, request_in, broken, status_held, status_of, slot_at, slots_of, row_of}
-use Rattle.device_bytes.specs.Walks.{get_d_slots, skip_slots}
+use Rattle.device_bytes.specs.Walks.{get_or_slots, skip_slots}
 use Rattle.slot_judging.specs.Laws.{broken_wrong}
 use Rattle.judging.specs.Judging.{slots_impossible, open_device}
 
@@ -53,7 +53,7 @@ module _ (dev : List ℕ) where
   unfolding slot_at status_of
   some_occupied k some =
       let f : get_or (part (slot_place k) 32 dev) 0 0 ≡ get_or dev (32 + k * 32) 0 =
-      get_d_part (slot_place k) 32 dev 0 (lit< tt) ∙ ap (λ (i : ℕ). get_or dev i 0) (add-zero (slot_place k)) in
+      get_or_part (slot_place k) 32 dev 0 (lit< tt) ∙ ap (λ (i : ℕ). get_or dev i 0) (add-zero (slot_place k)) in
       rw (ne_eqb (get_or (part (slot_place k) 32 dev) 0 0) 0 (λ e. some (sym f ∙ e)))
       (held_occupied (get_or (part (slot_place k) 32 dev) 0 0) (get_or (part (slot_place k) 32 dev) 2 0) (request_in (part (slot_place k) 32 dev)))
 
@@ -64,7 +64,7 @@ module _ (dev : List ℕ) where
       go true e = refl
       go false e =
           absurd (false≢true
-          (sym (none_each is_occupied (slots_of 8 dev) refl e k) ∙ ap is_occupied (get_d_slots 8 dev k h (omega arith)) ∙ some_occupied k some))
+          (sym (none_each is_occupied (slots_of 8 dev) refl e k) ∙ ap is_occupied (get_or_slots 8 dev k h (omega arith)) ∙ some_occupied k some))
 
 -- ---- the device
 

@@ -6,7 +6,7 @@ use Rattle.std.proofs.lemmas.Bool.{false≢true}
 use Rattle.std.proofs.Math.Decide.{dec_lt}
 use Rattle.std.proofs.Math.Nat.{add-sub_cancel_left}
 use Rattle.words.specs.Choice.{both, either, both_left, both_right, both_yes}
-use Rattle.words.specs.Parts.{part, get_d_part}
+use Rattle.words.specs.Parts.{part, get_or_part}
 use Rattle.words.specs.Tests.{both_false, either_false}
 use Rattle.context.specs.declared.Logs.{Logs}
 use Rattle.slots.specs.Slots.{slot, has_command}
@@ -17,7 +17,7 @@ use Rattle.slot_checks.specs.SlotChecks.{slot_wrong}
 use Rattle.possible.specs.Possible.{both_commands, slots_clash}
 use Rattle.possible.specs.Pairs.{clashes_swap}
 use Rattle.device_bytes.specs.Decoding.{slot_place, slot_at, slots_of}
-use Rattle.device_bytes.specs.Walks.{length_slots, get_d_slots, free_behind, more_slots, skip_slots}
+use Rattle.device_bytes.specs.Walks.{length_slots, get_or_slots, free_behind, more_slots, skip_slots}
 use Rattle.hold_codes.specs.Codes.{no_hold, hold_of, holds_meet}
 use Rattle.hold_codes.specs.Meeting.{meet_is}
 use Rattle.hold_codes.specs.declared.Hold.{Hold}
@@ -37,7 +37,7 @@ pub record Passed (g : Logs) (dev : List ℕ) (k : ℕ) (holds : List Hold) (see
 module _ (g : Logs) (k : ℕ) (dev : List ℕ) (some : ¬ (get_or dev (32 + k * 32) 0 ≡ 0)) where
   first : ¬ (get_or (part (slot_place k) 32 dev) 0 0 ≡ 0)
   first e =
-      some (sym (get_d_part (slot_place k) 32 dev 0 (lit< tt) ∙ ap (λ (i : ℕ). get_or dev i 0) (add-zero (slot_place k))) ∙ e)
+      some (sym (get_or_part (slot_place k) 32 dev 0 (lit< tt) ∙ ap (λ (i : ℕ). get_or dev i 0) (add-zero (slot_place k))) ∙ e)
 
   at_wrong : (judged_at g k dev).wrong ≡ slot_wrong g (slot_at k dev)
   unfolding judged_at slot_at
@@ -54,7 +54,7 @@ module _ (g : Logs) (k : ℕ) (dev : List ℕ) (some : ¬ (get_or dev (32 + k * 
 module _ (g : Logs) (dev : List ℕ) where
   -- a slot of the row of eight
   at_is : (k : ℕ) → k < 8 → at (slots_of 8 dev) k ≡ slot_at k dev
-  at_is k h = get_d_slots 8 dev k h (omega arith)
+  at_is k h = get_or_slots 8 dev k h (omega arith)
 
   pub passed_none : (none : Hold) (holds : List Hold) → none ≡ no_hold → holds ≡ replicate 8 none → Passed g dev 0 holds false
   unfolding slots_of any_slot
@@ -88,7 +88,7 @@ module _ (g : Logs) (dev : List ℕ) where
       where
         go : Dec (j < k) → has_command (at (slots_of k dev) j) ≡ false
         go (yes y) =
-            let a : at (slots_of k dev) j ≡ slot_at j dev = get_d_slots k dev j y (omega arith) in
+            let a : at (slots_of k dev) j ≡ slot_at j dev = get_or_slots k dev j y (omega arith) in
             let b : both_commands (at (slots_of 8 dev) k) (at (slots_of 8 dev) j) ≡ false = o.commands k j (λ i. omega arith) in
             ap has_command a ∙ (rw (at_is k h, at_is j (omega arith), e) at b)
         go (no y) = ap has_command (free_behind k dev j (omega arith))
@@ -103,7 +103,7 @@ module _ (g : Logs) (dev : List ℕ) where
     clash_found : (j : ℕ) → j < k → slots_clash (slot_at k dev) (at (slots_of k dev) j) ≡ true → true ≡ slots_impossible g (slots_of 8 dev)
     clash_found j l e =
         contrary g (slots_of 8 dev)
-        (λ o. let a : at (slots_of k dev) j ≡ at (slots_of 8 dev) j = get_d_slots k dev j l (omega arith) ∙ sym (at_is j (omega arith)) in
+        (λ o. let a : at (slots_of k dev) j ≡ at (slots_of 8 dev) j = get_or_slots k dev j l (omega arith) ∙ sym (at_is j (omega arith)) in
         let b : slots_clash (at (slots_of 8 dev) k) (at (slots_of 8 dev) j) ≡ false = o.holds k j (λ i. omega arith) in
         false≢true (sym (ap₂ slots_clash (sym (at_is k h)) a ∙ b) ∙ e))
 

@@ -1,5 +1,7 @@
 // Whether the C interface's device, 288 bytes, is in an impossible state (01, Numbers returned, 0x87). Every exported call asks it, so
 // it judges the bytes of each occupied slot where the scan meets it, without building the row.
+#![tactic(auto)]
+
 ghost use Rattle.std.specs.Prelude.{◌≡◌, ◌<◌, length};
 ghost use Rattle.slots.specs.Slots.{is_occupied};
 ghost use Rattle.rows.specs.Rows.{any_slot};

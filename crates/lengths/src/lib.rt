@@ -1,4 +1,6 @@
 // The first row of the table of refusals, of a row of eight slots: the lengths of room and store.
+#![tactic(auto)]
+
 ghost use Rattle.std.specs.Prelude.{◌≡◌};
 ghost use Rattle.lengths.specs.Lengths.{lengths_wrong};
 

@@ -1,4 +1,6 @@
 // The slots of a row that the caller lends: all eight taken out or put back, and one put back.
+#![tactic(auto)]
+
 ghost use Rattle.std.specs.Prelude.{◌≡◌, length, set};
 
 use slots::Slot;

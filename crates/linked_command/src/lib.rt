@@ -1,6 +1,8 @@
 // The submission of a command, with the row of slots by value. What it promises here is its link in a chain of calls: the
 // equation with the rules that its own crate promises, and nothing less would give it. So all that is
 // proved of chains (the crate `chains`: demands 2 and 3) is proved of it.
+#![tactic(auto)]
+
 ghost use Rattle.rules.specs.World.{world};
 ghost use Rattle.rules.specs.Calls as calls;
 ghost use Rattle.handed_back.specs.Handed.{submit_handed};

@@ -1,4 +1,6 @@
 // How many mailbox bytes each request needs.
+#![tactic(auto)]
+
 ghost use Rattle.std.specs.Prelude.{◌≡◌};
 ghost use Rattle.mailboxes.specs.Mailboxes.{stored_of, edge_need, command_need, need_of};
 

@@ -1,5 +1,7 @@
 // One burst of a slot's request, moved: to the record by the bytes in the room, or from the record to the room.
 // It needs no row, so that an operation can hold its slots as it likes.
+#![tactic(auto)]
+
 ghost use Rattle.std.specs.Prelude.{◌≡◌};
 ghost use Rattle.records.specs.Calls.{Moving};
 ghost use Rattle.moving.specs.Moves.{moved, burst_moved};

@@ -1,4 +1,6 @@
 // The number of a record as it is submitted, checked against the count of its own kind.
+#![tactic(auto)]
+
 ghost use Rattle.std.specs.Prelude.{◌≡◌};
 ghost use Rattle.numbers.specs.Numbers.{number_rows, qp_of, cq_of, eq_of, mpt_of, qp_found_number, cq_found_number};
 ghost use Rattle.numbers.specs.Numbers.{eq_found_number, mpt_found_number};

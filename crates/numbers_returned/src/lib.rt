@@ -1,4 +1,6 @@
 // Document 01's number of each answer, for callers that speak in numbers.
+#![tactic(auto)]
+
 ghost use Rattle.std.specs.Prelude.{◌≡◌};
 ghost use Rattle.checks.specs.Verdicts.{denial_number};
 ghost use Rattle.rules.specs.Numbers.{refusal_number, submit_number, step_number, collect_number, reset_number};

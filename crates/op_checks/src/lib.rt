@@ -1,4 +1,6 @@
 // Whether a command's op is refused by itself: it is not served now, or something under way is in its way.
+#![tactic(auto)]
+
 ghost use Rattle.std.specs.Prelude.{◌≡◌};
 ghost use Rattle.rules.specs.Commands.{bad_system, is_close, busy};
 

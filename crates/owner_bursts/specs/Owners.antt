@@ -4,7 +4,7 @@ use Rattle.std.proofs.Common.{sym, ◌∙◌, ap, inl, inr, arith, ne_eqb}
 use Rattle.std.proofs.Math.Decide.{dec_lt, ℕ_discrete}
 use Rattle.words.specs.Choice.{pick}
 use Rattle.words.specs.Tests.{within_yes, within_no}
-use Rattle.words.specs.Parts.{part, splice, length_part, get_d_part}
+use Rattle.words.specs.Parts.{part, splice, length_part, get_or_part}
 use Rattle.words.specs.Maps.{map_from, map_map}
 use Rattle.requests.specs.declared.Owned.{Owned}
 use Rattle.requests.specs.declared.Owned.TheVariants as owned
@@ -90,7 +90,7 @@ resize_copied first image r out burst need z w =
     word : (i : ℕ) → i < 4 → get_or (part 4 4 image) i 0 ≡ resize_byte image (first + (8 + i)) (get_or r (8 + i) 0)
     word i h =
         let e : first + (8 + i) - 0x14 ≡ 4 + i = omega arith in
-        get_d_part 4 4 image i h
+        get_or_part 4 4 image i h
         ∙ sym (ap (λ (j : ℕ). get_or image j 0) e)
         ∙ sym (resize_within image (first + (8 + i)) (get_or r (8 + i) 0) (omega arith) (omega arith))
 

@@ -1,4 +1,6 @@
 // One burst made zero, and one burst of the writes to a record that has an owner: SW2HW, and RESIZE_CQ.
+#![tactic(auto)]
+
 ghost use Rattle.std.specs.Prelude.{◌≡◌, ◌≤◌, length, replicate};
 ghost use Rattle.words.specs.Maps.{map_from};
 ghost use Rattle.mailboxes.specs.Mailboxes.{stored_of};

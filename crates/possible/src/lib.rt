@@ -1,4 +1,6 @@
 // Which states handed in are impossible (0x87).
+#![tactic(auto)]
+
 use context::Logs;
 
 // What the caller hands in and gets back: whether the adapter is open, the logarithms of the counts,

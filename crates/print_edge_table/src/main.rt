@@ -1,5 +1,7 @@
 // Prints the table of edges, to be held against the InfiniBand drawing: a line for each state code, 0 to
 // 15, with the commands that may leave it, by op, and the states that an engine write may leave.
+#![tactic(auto)]
+
 use commands::{Op, OpFound};
 use edge_table::Entry;
 use edges::{Move, State};

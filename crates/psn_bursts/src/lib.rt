@@ -1,4 +1,6 @@
 // One burst of an engine write: the PSN, and the state.
+#![tactic(auto)]
+
 ghost use Rattle.std.specs.Prelude.{◌≡◌};
 ghost use Rattle.words.specs.Maps.{map_from};
 ghost use Rattle.burst_table.specs.Bursts.{psn_place};

@@ -1,4 +1,6 @@
 // The records that a request holds, as a list that no scan looks inside.
+#![tactic(auto)]
+
 ghost use Rattle.std.specs.Prelude.{◌≡◌, ◌<◌, length, get_or};
 ghost use Rattle.request_table.specs.Records.{list_of, engine_holds, holds_of, no_record, one_of};
 ghost use Rattle.request_table.specs.declared.Records.TheVariants.{Three};

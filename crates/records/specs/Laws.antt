@@ -11,7 +11,7 @@ use Rattle.std.proofs.Math.ListN.{length-replicate, get_or-replicate}
 use Rattle.std.proofs.Math.Seq.{ext_get_or}
 use Rattle.words.specs.Choice.{pick, both_left, both_right}
 use Rattle.words.specs.Tails.{part_left, part_right}
-use Rattle.words.specs.Parts.{part, splice, length_part, get_d_part, length_splice, splice_in, splice_below, splice_above, part_part}
+use Rattle.words.specs.Parts.{part, splice, length_part, get_or_part, length_splice, splice_in, splice_below, splice_above, part_part}
 use Rattle.context.specs.Layout.{is_record, record_at, record_size, bytes_of, in_use}
 use Rattle.context.specs.Records.{record_inside, records_apart}
 use Rattle.context.specs.Tables.{Apart}
@@ -65,7 +65,7 @@ unfolding part
 part_front n at k s l =
     ext_get_or 0 (part at k (take n s)) (part at k s) same
     (λ i y. let y' : i < k = omega (arith, part_most at k (take n s)) in
-    get_d_part at k (take n s) i y' ∙ get_or-take n s (at + i) 0 (omega arith) ∙ sym (get_d_part at k s i y'))
+    get_or_part at k (take n s) i y' ∙ get_or-take n s (at + i) 0 (omega arith) ∙ sym (get_or_part at k s i y'))
   where
     same : length (part at k (take n s)) ≡ length (part at k s)
     same = simp (length-take, length-drop) (omega arith)
@@ -286,7 +286,7 @@ module _ (g : Logs) (m : Memory) (fits : Fits g m) where
       ext_get_or 0 (part (record_at g X) (record_size X) after) (replicate (record_size X) 0)
       (long ∙ sym (length-replicate {A = ℕ} (record_size X) 0))
       (λ i h. let h' : i < record_size X = omega (arith, long) in
-      get_d_part (record_at g X) (record_size X) after i h'
+      get_or_part (record_at g X) (record_size X) after i h'
       ∙ splice_in 0 (replicate (in_use g) 0) m.store zeroes_fit (record_at g X + i) (omega arith)
       (omega (arith, length-replicate {A = ℕ} (in_use g) 0, record_inside g X valid))
       ∙ get_or-replicate (in_use g) _ 0 0 (omega (arith, record_inside g X valid))

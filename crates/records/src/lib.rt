@@ -1,5 +1,7 @@
 // The lent memory: one burst is written or read, a record is judged, a name in one is read, and all
 // records are made zero. No other crate looks for a record in it. The callers have tested what is asked.
+#![tactic(auto)]
+
 ghost use Rattle.std.specs.Prelude.{◌≡◌, true, ◌+◌, ◌≤◌, ◌<◌, length};
 ghost use Rattle.context.specs.Layout.{ranges_hold, is_record, record_at};
 ghost use Rattle.context.specs.declared.Record.TheVariants.{Qp, Cq};

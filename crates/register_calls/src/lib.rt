@@ -1,4 +1,6 @@
 // The command register for C: its fields stand in 32 lent bytes, so that a caller in C needs no struct of ours.
+#![tactic(auto)]
+
 ghost use Rattle.std.specs.Prelude.{◌≡◌, ◌+◌, ◌*◌, ◌≤◌, ◌∷◌, [], length};
 ghost use Rattle.words.specs.Parts.{splice};
 ghost use Rattle.words.specs.Words.{le_bytes};

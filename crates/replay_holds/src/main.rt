@@ -1,4 +1,5 @@
 // Runs a script in which requests clash over the records that they hold.
+#![tactic(auto)]
 
 fn main() {
     script_run::run();

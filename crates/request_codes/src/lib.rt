@@ -1,4 +1,6 @@
 // The numbers of a request: a command's op, an engine request's number, and the index of its record.
+#![tactic(auto)]
+
 ghost use Rattle.std.specs.Prelude.{◌≡◌};
 ghost use Rattle.request_codes.specs.Numbers.{edge_op, sw2hw_op, hw2sw_op, command_op, write_number, engine_number, index_of};
 

@@ -1,4 +1,6 @@
 // Whether a request writes its records or only reads them, and whether it is a command.
+#![tactic(auto)]
+
 ghost use Rattle.std.specs.Prelude.{◌≡◌};
 ghost use Rattle.request_table.specs.Records.{command_writes, engine_writes, writes_of, is_command};
 

@@ -1,4 +1,6 @@
 // Whether a request's records and PSN are ones that its submission accepts.
+#![tactic(auto)]
+
 ghost use Rattle.std.specs.Prelude.{◌≡◌};
 ghost use Rattle.request_table.specs.Records.{list_of, all_records, psn_holds, numbers_hold};
 ghost use Rattle.request_table.specs.declared.Records.TheVariants.{Three};

@@ -1,4 +1,6 @@
 // The record that a request's index names.
+#![tactic(auto)]
+
 ghost use Rattle.std.specs.Prelude.{◌≡◌};
 ghost use Rattle.request_table.specs.Records.{owned_record, command_record, engine_record, record_of};
 

@@ -1,4 +1,6 @@
 // The request table: for each request its records, and whether it writes them.
+#![tactic(auto)]
+
 use context::{CqNumber, EqNumber, QpNumber, Record};
 
 // The records that a request holds while it runs: one, or the three of a joined read. Only the

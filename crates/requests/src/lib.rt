@@ -1,4 +1,6 @@
 // What a request is: the commands on a record, and the engine requests.
+#![tactic(auto)]
+
 ghost use Rattle.std.specs.Prelude.{◌≡◌};
 ghost use Rattle.requests.specs.Psns.{psn_fits};
 

@@ -1,4 +1,6 @@
 // The scan of a row for a command.
+#![tactic(auto)]
+
 ghost use Rattle.std.specs.Prelude.{◌≡◌, ◌≤◌, drop};
 ghost use Rattle.slots.specs.Slots.{has_command};
 ghost use Rattle.rows.specs.Rows.{any_slot};

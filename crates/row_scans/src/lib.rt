@@ -1,4 +1,6 @@
 // The scans of a row for a free slot and for an occupied one.
+#![tactic(auto)]
+
 ghost use Rattle.std.specs.Prelude.{◌≡◌};
 ghost use Rattle.slots.specs.Slots.{is_occupied};
 ghost use Rattle.rows.specs.Rows.{any_slot, lowest_free};

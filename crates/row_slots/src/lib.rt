@@ -1,4 +1,6 @@
 // One slot of a row, taken out or put back.
+#![tactic(auto)]
+
 ghost use Rattle.std.specs.Prelude.{◌≡◌, get_or, set};
 ghost use Rattle.slots.specs.Slots.{slot};
 ghost use Rattle.slots.specs.declared.Status.TheVariants.{Free};

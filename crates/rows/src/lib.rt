@@ -1,4 +1,6 @@
 // The row of eight slots, and the row that is empty.
+#![tactic(auto)]
+
 ghost use Rattle.std.specs.Prelude.{◌≡◌};
 ghost use Rattle.rows.specs.Rows.{empty_row};
 

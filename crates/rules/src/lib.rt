@@ -1,5 +1,6 @@
 // The answers of the model's five calls, and what a submission decides. What each call answers and
 // leaves is defined in specs/.
+#![tactic(auto)]
 
 use checks::Denial;
 use context::Logs;

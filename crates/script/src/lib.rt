@@ -1,4 +1,6 @@
 // The interpreter of scripts: what each line does and prints.
+#![tactic(auto)]
+
 use script_keywords::{Call, Device, Keyword};
 use script_session::{Session, after};
 

@@ -1,4 +1,6 @@
 // Bytes in a script: lower-case hexadecimal pairs, or `-` for none.
+#![tactic(auto)]
+
 ghost use Rattle.std.specs.Prelude.{◌≡◌, ◌<◌};
 ghost use Rattle.words.specs.Maps.{map_from};
 ghost use Rattle.script_bytes.specs.Bytes.{all_digits, count_of, pair_of, byte_of, character_of, text_of, Front};

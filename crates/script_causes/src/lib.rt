@@ -1,4 +1,6 @@
 // The causes of refusals, as a script's `why` tells them.
+#![tactic(auto)]
+
 use call_causes::Cause;
 use checks::Denial;
 use rules::Refusal;

@@ -1,4 +1,6 @@
 // A script's `slot` line: a slot that the next call is handed.
+#![tactic(auto)]
+
 ghost use Rattle.std.specs.Prelude.{◌≡◌};
 ghost use Rattle.script_words.specs.Words.{word_at};
 ghost use Rattle.script_numbers.specs.Numbers.{number_of};

@@ -1,4 +1,6 @@
 // The buffer through which a script is read: what was read and is not yet run stands at its front.
+#![tactic(auto)]
+
 ghost use Rattle.std.specs.Prelude.{◌≡◌, ◌≤◌, length, take};
 
 use libc::STDIN_FILENO;

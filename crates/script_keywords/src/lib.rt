@@ -1,4 +1,6 @@
 // What a script's line asks for, by its first word.
+#![tactic(auto)]
+
 ghost use Rattle.std.specs.Prelude.{◌≡◌};
 ghost use Rattle.script_keywords.specs.Keywords.{keyword_of, lengths_of, contents_of, device_of};
 

@@ -1,4 +1,6 @@
 // The numbers of a script's line.
+#![tactic(auto)]
+
 ghost use Rattle.std.specs.Prelude.{◌≡◌};
 ghost use Rattle.script_lines.specs.Lines.{wrong_numbers, numbers_of};
 

@@ -1,4 +1,6 @@
 // A script's lines on memory: how much is lent, and what somebody reads and writes there.
+#![tactic(auto)]
+
 ghost use Rattle.std.specs.Prelude.{◌≡◌};
 ghost use Rattle.script_memory.specs.Lending.{fresh_of};
 

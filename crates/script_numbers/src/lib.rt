@@ -1,4 +1,6 @@
 // Numbers in a script: decimal, or lower-case hexadecimal after `0x`.
+#![tactic(auto)]
+
 ghost use Rattle.std.specs.Prelude.{◌≡◌, ◌+◌, ◌*◌};
 ghost use Rattle.script_numbers.specs.Numbers.{digit_of, digits_of, is_hexadecimal, number_of};
 

@@ -1,4 +1,6 @@
 // What a script's answers are printed with, to standard output.
+#![tactic(auto)]
+
 use libc::STDOUT_FILENO;
 
 pub fn text(words: &[u8]) {

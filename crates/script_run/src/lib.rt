@@ -1,5 +1,7 @@
 // A run of a script from standard input, with each line's answer printed, or what it changes shown as waves. The lines that a read
 // brought are run before the next read, so each is answered before more is asked for.
+#![tactic(auto)]
+
 ghost use Rattle.std.specs.Prelude.{◌≤◌};
 
 use libc::STDERR_FILENO;

@@ -1,4 +1,6 @@
 // What a run of a script keeps from one line to the next.
+#![tactic(auto)]
+
 use call_causes::Cause;
 use possible::Hca;
 use script_device::SlotFound;

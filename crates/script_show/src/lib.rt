@@ -1,4 +1,6 @@
 // A script's `show`: the state, and each lent slot.
+#![tactic(auto)]
+
 use possible::Hca;
 use requests::{EngineRequest, Request};
 use script_print::{decimal, end, hexadecimal, more, text};

@@ -1,4 +1,6 @@
 // A script's `state` line: the state that the next call is handed.
+#![tactic(auto)]
+
 ghost use Rattle.std.specs.Prelude.{◌≡◌};
 ghost use Rattle.script_lines.specs.Lines.{numbers_of};
 ghost use Rattle.script_states.specs.States.{logs_of, with_logs, state_in};

@@ -1,4 +1,6 @@
 // A script's steps, collections and resets.
+#![tactic(auto)]
+
 use rules::{CollectAnswer, ResetAnswer, StepAnswer};
 use script_bytes::front;
 use script_print::{end, hexadecimal, more, text};

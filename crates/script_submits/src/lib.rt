@@ -1,4 +1,6 @@
 // A script's submissions: commands and engine requests.
+#![tactic(auto)]
+
 use adapter_front_submits::SubmittedFront;
 use rules::SubmitAnswer;
 use script_bytes::{BytesFound, front};

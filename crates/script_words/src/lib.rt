@@ -1,5 +1,7 @@
 // The words of a script's line. They are parted by single spaces, so two spaces in a row, or one at
 // the line's end, have an empty word between or behind them, which stands for nothing.
+#![tactic(auto)]
+
 ghost use Rattle.std.specs.Prelude.{◌≡◌, ◌+◌, ◌≤◌, length, drop};
 ghost use Rattle.script_words.specs.Words.{one, spaces, behind, first_length, word_at, same_word};
 

@@ -1,4 +1,6 @@
 // Whether a slot that is handed in is impossible by itself.
+#![tactic(auto)]
+
 ghost use Rattle.std.specs.Prelude.{◌≡◌};
 ghost use Rattle.slot_checks.specs.SlotChecks.{request_wrong, bursts_wrong, slot_wrong};
 

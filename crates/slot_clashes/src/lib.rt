@@ -1,4 +1,6 @@
 // Whether the request of one slot holds a record against another request.
+#![tactic(auto)]
+
 ghost use Rattle.std.specs.Prelude.{◌≡◌, ◌<◌, length, get_or};
 ghost use Rattle.request_table.specs.Records.{list_of, records_of, no_record, writes_of};
 ghost use Rattle.holds.specs.Holds.{clash_pair, clash_records, clash_slot};

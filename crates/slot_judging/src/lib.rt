@@ -1,5 +1,7 @@
 // Whether the 32 bytes of an occupied slot are impossible by themselves (01, Numbers returned, 0x87), and what they hold. It works on
 // the numbers in the bytes, without building the slot, since every call of the C interface asks it.
+#![tactic(auto)]
+
 ghost use Rattle.std.specs.Prelude.{◌≡◌, true, false, ◌+◌, ◌*◌, ◌≤◌, length, get_or};
 ghost use Rattle.words.specs.Words.{le32};
 ghost use Rattle.slot_requests.specs.Requests.{with_op};

@@ -1,4 +1,6 @@
 // Which two slots do not go together.
+#![tactic(auto)]
+
 ghost use Rattle.std.specs.Prelude.{◌≡◌};
 ghost use Rattle.possible.specs.Possible.{both_commands, slots_clash, pair_wrong};
 

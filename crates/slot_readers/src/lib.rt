@@ -1,5 +1,7 @@
 // A slot from its 32 bytes of the C interface's device. Any bytes are read: those that no slot has
 // give a slot that no state has, so that the rules' own test refuses them.
+#![tactic(auto)]
+
 ghost use Rattle.std.specs.Prelude.{◌≡◌, ◌+◌, ◌*◌, ◌<◌, length};
 ghost use Rattle.slot_requests.specs.Requests.{any_index};
 ghost use Rattle.device_bytes.specs.Decoding.{engine_held, number_held, request_in, broken, status_held, status_of, slot_at};

@@ -1,6 +1,8 @@
 // A slot's request from the numbers that it is handed in with, by a script or in the C interface's
 // bytes. A slot handed in may be impossible, so the index, the PSN and the names of a joined read are
 // not judged; but what no submission could ever put into a slot, the slot's type cannot hold.
+#![tactic(auto)]
+
 ghost use Rattle.std.specs.Prelude.{◌≡◌};
 ghost use Rattle.slot_requests.specs.Requests.{any_index, on_record, with_op, command_in, with_psn, code_of, on_one, joined_on, on_queue_pair, with_number, engine_in};
 

@@ -1,4 +1,6 @@
 // What a slot has: a request, or a command, running or finished.
+#![tactic(auto)]
+
 ghost use Rattle.std.specs.Prelude.{◌≡◌};
 ghost use Rattle.slots.specs.Slots.{is_occupied, has_command};
 

@@ -1,4 +1,6 @@
 // A slot as its 32 bytes of the C interface's device. What no field uses is 0.
+#![tactic(auto)]
+
 ghost use Rattle.std.specs.Prelude.{◌≡◌, ◌<◌, length};
 ghost use Rattle.commands.specs.Commands.{edge_modifier};
 ghost use Rattle.request_codes.specs.Numbers.{command_op, engine_number};

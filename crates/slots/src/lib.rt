@@ -1,4 +1,6 @@
 // A slot by value: the request in it, and how far it has moved.
+#![tactic(auto)]
+
 ghost use Rattle.std.specs.Prelude.{◌≡◌, ◌-◌};
 ghost use Rattle.burst_table.specs.Bursts.{total_of};
 ghost use Rattle.slots.specs.Slots.{accepted, freed, advanced_status, advanced_slot, left_status, left_of};

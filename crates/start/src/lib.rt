@@ -1,5 +1,7 @@
 // What a caller begins with: a closed state. The empty row is `rows::empty_row`; a program that lends the
 // front of nine slots begins with nine.
+#![tactic(auto)]
+
 ghost use Rattle.std.specs.Prelude.{◌≡◌};
 ghost use Rattle.start.specs.Start.{closed_state, nine_free};
 

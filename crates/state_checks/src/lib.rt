@@ -1,4 +1,6 @@
 // Whether a state handed in is impossible.
+#![tactic(auto)]
+
 ghost use Rattle.std.specs.Prelude.{◌≡◌};
 ghost use Rattle.possible.specs.Possible.{open_impossible, impossible};
 

@@ -1,5 +1,7 @@
 // The four tables in the store: whether they fit it, where each starts, where a record starts, and
 // INIT_HCA's mailbox, which says how large they are.
+#![tactic(auto)]
+
 ghost use Rattle.std.specs.Prelude.{◌≡◌, true, ◌^◌, ◌≤◌};
 ghost use Rattle.context.specs.Layout.{start_of, in_use, ranges_hold, fits_store, is_record, record_at};
 ghost use Rattle.context.specs.Init.{init_rows, init_of, init_found_number};

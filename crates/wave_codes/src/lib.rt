@@ -1,4 +1,6 @@
 // What waves tell by a number: what a line of a script does, and the row of a refusal.
+#![tactic(auto)]
+
 ghost use Rattle.std.specs.Prelude.{◌≡◌};
 ghost use Rattle.wave_codes.specs.Codes.{call_line, memory_line, device_line, line_code, denial_row, refusal_row, row_code};
 

@@ -1,5 +1,7 @@
 // The names by which waves show what has a number: states of a slot, requests, kinds of records, lines of a script, and the rows of
 // document 01's table of refusals.
+#![tactic(auto)]
+
 use wave_text::print_word;
 
 pub fn print_status(i: usize, code: u64) {

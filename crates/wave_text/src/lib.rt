@@ -1,4 +1,6 @@
 // The lines of a value change dump (VCD, IEEE 1364), written to standard output.
+#![tactic(auto)]
+
 use script_print::{decimal, text};
 
 const NEWLINE: u8 = 0x0a;

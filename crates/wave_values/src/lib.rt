@@ -1,4 +1,6 @@
 // What waves show of a slot: eight numbers, one for each of its signals; and how many holds it has.
+#![tactic(auto)]
+
 ghost use Rattle.std.specs.Prelude.{◌≡◌, length};
 ghost use Rattle.request_table.specs.Records.{records_of};
 ghost use Rattle.wave_values.specs.Values.{request_code, kind_shown, engine_cq, engine_eq, cq_shown, eq_shown};

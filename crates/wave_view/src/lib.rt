@@ -1,5 +1,7 @@
 // The waves of a run: after each line of the script, what has changed of the signals. All signals are numbers in one array: what the
 // last line left of them is kept there, so that only changes are written.
+#![tactic(auto)]
+
 use call_causes::Cause;
 use context::Logs;
 use possible::Hca;

@@ -1,6 +1,8 @@
 // Makes each write of document 01 twice, burst by burst as the model does and at once by a
 // reference of its own, and prints both records and whether they are the same. Only the effects are
 // compared: what a submission checks first (holds, states, owners) is not run.
+#![tactic(auto)]
+
 mod memory;
 mod reference;
 

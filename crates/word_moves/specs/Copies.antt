@@ -4,7 +4,7 @@ use Rattle.std.specs.Prelude.{◌≡◌, refl, Bool, true, false, List, ℕ, ◌
 use Rattle.std.proofs.Common.{sym, ◌∙◌, ap, arith, eq-eqb, ne_eqb, lt-ltb, le-ltb}
 use Rattle.std.proofs.Math.Decide.{dec_lt, ℕ_discrete}
 use Rattle.words.specs.Choice.{pick, pick_yes, pick_no}
-use Rattle.words.specs.Parts.{part, splice, length_part, get_d_part, length_splice, splice_below, splice_in, splice_above}
+use Rattle.words.specs.Parts.{part, splice, length_part, get_or_part, length_splice, splice_below, splice_in, splice_above}
 use Rattle.words.specs.Maps.{map_from, map_map}
 use Rattle.words.specs.Leaves.{part_four, splice_four}
 use Rattle.byte_rule.specs.Taken.{word_of}
@@ -68,7 +68,7 @@ pub word_taken : (t : ℕ → Bool) (first o : ℕ) (image r : List ℕ) → fir
     → splice o (part (first + o) 4 image) r ≡ map_from (on_word (first + o) (λ i b. pick (t i) (get_or image i 0) b)) first r
 word_taken t first o image r start place h k taken =
     splice_word _ first o r start place k (part (first + o) 4 image) (length_part (first + o) 4 image h)
-    (λ i l. get_d_part (first + o) 4 image i l
+    (λ i l. get_or_part (first + o) 4 image i l
     ∙ ap (λ (j : ℕ). get_or image j 0) (again i)
     ∙ pick_yes (t (first + (o + i))) _ _ _ (taken (first + (o + i)) (omega arith)) refl)
   where

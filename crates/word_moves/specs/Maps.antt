@@ -3,21 +3,21 @@ use Rattle.std.specs.Prelude.{◌≡◌, refl, List, ℕ, ◌+◌, ◌≤◌, �
 use Rattle.std.proofs.Common.{sym, ◌∙◌, ap, arith, eq-eqb, ne_eqb, length-set, ext_get_or, get_or-set_same, get_or-set_other}
 use Rattle.std.proofs.Math.Decide.{ℕ_discrete}
 use Rattle.words.specs.Choice.{pick, pick_yes, pick_no}
-use Rattle.words.specs.Maps.{map_from, length_map_from, get_d_map_from}
+use Rattle.words.specs.Maps.{map_from, length_map_from, get_or_map_from}
 
 -- what is as long as r and has f of each place and element is the map of r
 pub made_from : (f : ℕ → ℕ → ℕ) (at : ℕ) (l r : List ℕ) → length l ≡ length r
     → ((i : ℕ) → i < length r → get_or l i 0 ≡ f (at + i) (get_or r i 0)) → l ≡ map_from f at r
 made_from f at l r e each =
     ext_get_or 0 l (map_from f at r) (e ∙ sym (length_map_from f at r))
-    (λ i h. let h' : i < length r = omega arith in each i h' ∙ sym (get_d_map_from f at r i h'))
+    (λ i h. let h' : i < length r = omega arith in each i h' ∙ sym (get_or_map_from f at r i h'))
 
 -- functions that agree on the places of r make the same map
 pub map_agrees : (f g : ℕ → ℕ → ℕ) (at : ℕ) (r : List ℕ) → ((i b : ℕ) → at ≤ i → i < at + length r → f i b ≡ g i b)
     → map_from f at r ≡ map_from g at r
 map_agrees f g at r same =
     made_from g at (map_from f at r) r (length_map_from f at r)
-    (λ i h. get_d_map_from f at r i h ∙ same (at + i) (get_or r i 0) (omega arith) (omega arith))
+    (λ i h. get_or_map_from f at r i h ∙ same (at + i) (get_or r i 0) (omega arith) (omega arith))
 
 -- a function that leaves every place of r leaves r
 pub map_leaves : (f : ℕ → ℕ → ℕ) (at : ℕ) (r : List ℕ) → ((i b : ℕ) → at ≤ i → i < at + length r → f i b ≡ b) → r ≡ map_from f at r
@@ -32,7 +32,7 @@ map_put f g at k x m r e h w = made_from _ at (set m k x) r (length-set m k x �
     same = ap length e ∙ length_map_from f at r
 
     old : (i : ℕ) → i < length r → get_or m i 0 ≡ f (at + i) (get_or r i 0)
-    old i l = ap (λ (s : List ℕ). get_or s i 0) e ∙ get_d_map_from f at r i l
+    old i l = ap (λ (s : List ℕ). get_or s i 0) e ∙ get_or_map_from f at r i l
 
     new : (i : ℕ) → i < length r → i ≡ k → get_or (set m k x) i 0 ≡ g (at + i) (f (at + i) (get_or r i 0))
     new i l y =

@@ -1,5 +1,7 @@
 // The words of one burst that come from a mailbox image: those that an edge takes, and those that
 // SW2HW stores.
+#![tactic(auto)]
+
 ghost use Rattle.std.specs.Prelude.{◌≡◌, ◌+◌, ◌≤◌, ◌%◌, length};
 ghost use Rattle.words.specs.Parts.{part, splice};
 ghost use Rattle.words.specs.Maps.{map_from};

@@ -4,7 +4,7 @@ use Rattle.std.proofs.Common.{sym, ◌∙◌, ap, inl, inr, add-zero, zero-add, 
 use Rattle.std.proofs.Math.Decide.{dec_lt}
 use Rattle.std.proofs.lemmas.List.{length-replicate, get_or-replicate}
 use Rattle.words.specs.Choice.{pick, pick_yes, pick_no}
-use Rattle.words.specs.Parts.{part, splice, length_part, get_d_part, length_splice, splice_below, splice_in, splice_above}
+use Rattle.words.specs.Parts.{part, splice, length_part, get_or_part, length_splice, splice_below, splice_in, splice_above}
 
 -- element k of l becomes f (i + k) of itself
 unfoldable pub map_from : (ℕ → ℕ → ℕ) → ℕ → List ℕ → List ℕ
@@ -22,12 +22,12 @@ unfolding map_from
 length_map_from f i [] = refl
 length_map_from f i (x ∷ xs) = ap suc (length_map_from f (suc i) xs)
 
-pub get_d_map_from : (f : ℕ → ℕ → ℕ) (b : ℕ) (l : List ℕ) (i : ℕ) → i < length l → get_or (map_from f b l) i 0 ≡ f (b + i) (get_or l i 0)
+pub get_or_map_from : (f : ℕ → ℕ → ℕ) (b : ℕ) (l : List ℕ) (i : ℕ) → i < length l → get_or (map_from f b l) i 0 ≡ f (b + i) (get_or l i 0)
 unfolding map_from
-get_d_map_from f b [] i h = absurd (not-suc-le-zero h)
-get_d_map_from f b (x ∷ l) zero h = ap (λ (k : ℕ). f k x) (sym (add-zero b))
-get_d_map_from f b (x ∷ l) (suc i) h =
-    get_d_map_from f (suc b) l i (le_of_suc-le-suc h) ∙ ap (λ (k : ℕ). f k (get_or l i 0)) (suc-add b i ∙ sym (add-suc b i))
+get_or_map_from f b [] i h = absurd (not-suc-le-zero h)
+get_or_map_from f b (x ∷ l) zero h = ap (λ (k : ℕ). f k x) (sym (add-zero b))
+get_or_map_from f b (x ∷ l) (suc i) h =
+    get_or_map_from f (suc b) l i (le_of_suc-le-suc h) ∙ ap (λ (k : ℕ). f k (get_or l i 0)) (suc-add b i ∙ sym (add-suc b i))
 
 -- what is as long as r and has f of each place and element is the map of r
 pub made_map : (f : ℕ → ℕ → ℕ) (l r : List ℕ) → length l ≡ length r
@@ -35,7 +35,7 @@ pub made_map : (f : ℕ → ℕ → ℕ) (l r : List ℕ) → length l ≡ lengt
 made_map f l r e each =
     ext_get_or 0 l (map_from f 0 r) (e ∙ sym (length_map_from f 0 r))
     (λ i h. let h' : i < length r = omega arith in
-    each i h' ∙ sym (get_d_map_from f 0 r i h' ∙ ap (λ (k : ℕ). f k (get_or r i 0)) (zero-add i)))
+    each i h' ∙ sym (get_or_map_from f 0 r i h' ∙ ap (λ (k : ℕ). f k (get_or r i 0)) (zero-add i)))
 
 pub map_cong : (f g : ℕ → ℕ → ℕ) (at : ℕ) (r : List ℕ) → ((i b : ℕ) → f i b ≡ g i b) → map_from f at r ≡ map_from g at r
 map_cong f g at r e = λ j. map_from (λ i b. e i b j) at r
@@ -76,7 +76,7 @@ pub copy_map : (t : ℕ → Bool) (p : ℕ → ℕ) (at from n : ℕ) (xs r : Li
     → splice at (part from n xs) r ≡ map_from (λ i b. pick (t i) (get_or xs (p i) 0) b) 0 r
 copy_map t p at from n xs r h k inside outside place =
     splice_map _ at n (part from n xs) r (length_part from n xs h) k
-    (λ i l m. get_d_part from n xs (i - at) (omega arith)
+    (λ i l m. get_or_part from n xs (i - at) (omega arith)
     ∙ ap (λ (j : ℕ). get_or xs j 0) (place i l m)
     ∙ pick_yes (t i) _ _ _ (inside i l m) refl)
     (λ i o. pick_no (t i) _ _ _ (outside i o) refl)

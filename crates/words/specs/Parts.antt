@@ -23,9 +23,9 @@ pub length_part : (at n : ℕ) (l : List ℕ) → at + n ≤ length l → length
 unfolding part
 length_part at n l h = simp (length-take, length-drop) (omega arith)
 
-pub get_d_part : (at n : ℕ) (l : List ℕ) (i : ℕ) → i < n → get_or (part at n l) i 0 ≡ get_or l (at + i) 0
+pub get_or_part : (at n : ℕ) (l : List ℕ) (i : ℕ) → i < n → get_or (part at n l) i 0 ≡ get_or l (at + i) 0
 unfolding part
-get_d_part at n l i h = rw (get_or-take, get_or-drop)
+get_or_part at n l i h = rw (get_or-take, get_or-drop)
 
 module _ (at : ℕ) (ys l : List ℕ) (fits : at + length ys ≤ length l) where
   pub length_splice : length (splice at ys l) ≡ length l
@@ -69,7 +69,7 @@ module _ (at : ℕ) (ys l : List ℕ) (fits : at + length ys ≤ length l) where
   pub splice_apart : (b n : ℕ) → b + n ≤ length l → (at + length ys ≤ b) ⊎ (b + n ≤ at) → part b n (splice at ys l) ≡ part b n l
   splice_apart b n h o =
       ext_get_or 0 (part b n (splice at ys l)) (part b n l) (same ∙ sym (length_part b n l h))
-      (λ i k. let k' : i < n = omega (arith, same) in get_d_part b n (splice at ys l) i k' ∙ each i k' o ∙ sym (get_d_part b n l i k'))
+      (λ i k. let k' : i < n = omega (arith, same) in get_or_part b n (splice at ys l) i k' ∙ each i k' o ∙ sym (get_or_part b n l i k'))
     where
       same : length (part b n (splice at ys l)) ≡ n
       same = length_part b n (splice at ys l) (omega (arith, length_splice))
@@ -83,10 +83,10 @@ pub part_part : (at n o m : ℕ) (l : List ℕ) → at + n ≤ length l → o + 
 part_part at n o m l h k =
     ext_get_or 0 (part o m (part at n l)) (part (at + o) m l) (first ∙ sym second)
     (λ i j. let j' : i < m = omega (arith, first) in
-    get_d_part o m (part at n l) i j'
-    ∙ get_d_part at n l (o + i) (omega arith)
+    get_or_part o m (part at n l) i j'
+    ∙ get_or_part at n l (o + i) (omega arith)
     ∙ ap (λ (x : ℕ). get_or l x 0) (re i)
-    ∙ sym (get_d_part (at + o) m l i j'))
+    ∙ sym (get_or_part (at + o) m l i j'))
   where
     re : (i : ℕ) → at + (o + i) ≡ at + o + i
     re i = omega arith
@@ -103,7 +103,7 @@ pub splice_inside : (at n o : ℕ) (ys l : List ℕ) → at + n ≤ length l →
 splice_inside at n o ys l h k =
     ext_get_or 0 (part at n (splice (at + o) ys l)) (splice o ys (part at n l)) (first ∙ sym second)
     (λ i j. let j' : i < n = omega (arith, first) in
-    get_d_part at n (splice (at + o) ys l) i j' ∙ each i j' (dec_lt i o) (dec_lt i (o + length ys)))
+    get_or_part at n (splice (at + o) ys l) i j' ∙ each i j' (dec_lt i o) (dec_lt i (o + length ys)))
   where
     fits : at + o + length ys ≤ length l
     fits = omega arith
@@ -121,7 +121,7 @@ splice_inside at n o ys l h k =
         → get_or (splice (at + o) ys l) (at + i) 0 ≡ get_or (splice o ys (part at n l)) i 0
     each i j (yes y) z =
         splice_below (at + o) ys l fits (at + i) (omega arith)
-        ∙ sym (get_d_part at n l i j)
+        ∙ sym (get_or_part at n l i j)
         ∙ sym (splice_below o ys (part at n l) fits_part i y)
     each i j (no y) (yes z) =
         let e : at + i - (at + o) ≡ i - o = omega arith in
@@ -130,14 +130,14 @@ splice_inside at n o ys l h k =
         ∙ sym (splice_in o ys (part at n l) fits_part i (omega arith) z)
     each i j (no y) (no z) =
         splice_above (at + o) ys l fits (at + i) (omega arith)
-        ∙ sym (get_d_part at n l i j)
+        ∙ sym (get_or_part at n l i j)
         ∙ sym (splice_above o ys (part at n l) fits_part i (omega arith))
 
 -- what was put somewhere is read there
 pub part_splice : (at : ℕ) (ys l : List ℕ) → at + length ys ≤ length l → part at (length ys) (splice at ys l) ≡ ys
 part_splice at ys l h =
     ext_get_or 0 (part at (length ys) (splice at ys l)) ys same
-    (λ i j. let j' : i < length ys = omega (arith, same) in get_d_part at (length ys) (splice at ys l) i j' ∙ splice_at at ys l h i j')
+    (λ i j. let j' : i < length ys = omega (arith, same) in get_or_part at (length ys) (splice at ys l) i j' ∙ splice_at at ys l h i j')
   where
     same : length (part at (length ys) (splice at ys l)) ≡ length ys
     same = length_part at (length ys) (splice at ys l) (omega (arith, length_splice at ys l h))
@@ -159,7 +159,7 @@ splice_part at n l h =
     each i (no y) (yes z) =
         let e : at + (i - at) ≡ i = omega arith in
         splice_in at (part at n l) l fits i (omega arith) (omega (arith, long))
-        ∙ get_d_part at n l (i - at) (omega arith)
+        ∙ get_or_part at n l (i - at) (omega arith)
         ∙ ap (λ (x : ℕ). get_or l x 0) e
     each i (no y) (no z) = splice_above at (part at n l) l fits i (omega (arith, long))
 
@@ -193,4 +193,4 @@ pub part_agrees : (at n : ℕ) (p c : List ℕ) → at + n ≤ length p → at +
     → ((i : ℕ) → i < n → get_or p (at + i) 0 ≡ get_or c (at + i) 0) → part at n p ≡ part at n c
 part_agrees at n p c h k a =
     ext_get_or 0 (part at n p) (part at n c) (length_part at n p h ∙ sym (length_part at n c k))
-    (λ i j. let j' : i < n = omega (arith, length_part at n p h) in get_d_part at n p i j' ∙ a i j' ∙ sym (get_d_part at n c i j'))
+    (λ i j. let j' : i < n = omega (arith, length_part at n p h) in get_or_part at n p i j' ∙ a i j' ∙ sym (get_or_part at n c i j'))

@@ -1,4 +1,6 @@
 // Bytes and words in lent slices. Every function here is a leaf: its callers have tested the lengths.
+#![tactic(auto)]
+
 ghost use Rattle.std.specs.Prelude.{◌≡◌, ◌+◌, ◌≤◌, ◌∷◌, [], length, replicate};
 ghost use Rattle.words.specs.Parts.{splice};
 ghost use Rattle.words.specs.Words.{le_value, le32, be32, le_bytes, be_bytes};
@@ -72,7 +74,7 @@ pub fn copy_to(from: &[u8], to: &mut [u8], at: usize)
     requires { at + length from.now ≤ length to.old }
     ensures { to.new ≡ splice at from.now to.old }
 {
-    bytes::copy(from, &mut to[at..]);
+    to[at..at + from.len()].copy_from_slice(from);
 }
 
 fn fill_all(s: &mut [u8], v: u8)

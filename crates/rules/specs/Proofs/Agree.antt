@@ -5,7 +5,7 @@ use Rattle.std.proofs.Math.Decide.{dec_lt}
 use Rattle.std.proofs.lemmas.List.{length-replicate, get_or-replicate, get_or_at}
 use Rattle.std.proofs.Math.ListN.{get_or-append}
 use Rattle.words.specs.Choice.{pick, within, pick_yes, pick_no}
-use Rattle.words.specs.Parts.{part, splice, length_part, get_d_part}
+use Rattle.words.specs.Parts.{part, splice, length_part, get_or_part}
 use Rattle.words.specs.Words.{be_bytes}
 use Rattle.words.specs.Maps.{map_from, length_map_from, made_map, map_cong, map_map, map_same, replicate_map, splice_map, copy_map}
 use Rattle.context.specs.Layout.{record_size}
@@ -48,7 +48,7 @@ owned_map n k mail r h e w =
     each : (i : ℕ) → Dec (i < n) → Dec (i < 63) → i < 64 → get_or (front ++ back) i 0 ≡ pick (ltb i n) (get_or mail i 0) (pick (eqb i 63) 1 0)
     each i (yes y) z j =
         pick_yes (ltb i n) _ _ _ (lt-ltb i n y)
-        (get_or-append front back 0 i (omega (arith, long)) ∙ get_d_part 0 n mail i y ∙ ap (λ (x : ℕ). get_or mail x 0) (zero-add i))
+        (get_or-append front back 0 i (omega (arith, long)) ∙ get_or_part 0 n mail i y ∙ ap (λ (x : ℕ). get_or mail x 0) (zero-add i))
     each i (no y) (yes z) j =
         let d : i ≡ n + (i - n) = omega arith in
         pick_no (ltb i n) _ _ _ (le-ltb i n (omega arith))

@@ -1,0 +1,6 @@
+use borrow.Author.Rules.{rules}
+use Rattle.words.specs.Leaves.{lent_fill}
+use Rattle.words.proofs.fill.Goals as goal
+
+pub returns : goal.returns
+returns c = search (rules, lent_fill)

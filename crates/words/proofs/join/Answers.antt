@@ -1,0 +1,6 @@
+use Rattle.words.specs.Leaves.{le_four}
+use borrow.Author.Rules.{rules}
+use Rattle.words.proofs.join.Goals as goal
+
+pub returns : goal.returns
+returns c = rw le_four (search rules)

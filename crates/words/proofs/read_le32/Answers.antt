@@ -1,0 +1,7 @@
+use Rattle.std.proofs.Common.{◌∙◌}
+use borrow.Author.Rules.{rules}
+use Rattle.words.specs.Leaves.{le32_is}
+use Rattle.words.proofs.read_le32.Goals as goal
+
+pub returns : goal.returns
+returns c = c.join.ensures ∙ le32_is _ _ (search rules)
