@@ -3,7 +3,7 @@
 use Rattle.std.specs.Prelude.{◌≡◌, refl, List, ℕ, ◌≤◌, ◌<◌, length, get_or, set}
 use Rattle.std.proofs.Common.{sym, ◌∙◌, ap, arith, lt-ltb, le-ltb}
 use Rattle.std.proofs.Math.Decide.{dec_lt}
-use Rattle.words.specs.Choice.{pick_yes, pick_no}
+use Rattle.words.proofs.Choice.{pick_yes, pick_no}
 use Rattle.words.specs.Parts.{splice}
 use Rattle.requests.specs.declared.Request.{Request}
 use Rattle.answers.specs.Answers.{answer_of, answer_size}
@@ -13,7 +13,7 @@ use Rattle.slots.specs.Slots.{slot, freed}
 use Rattle.slots.specs.declared.Slot.{Slot}
 use Rattle.slots.specs.declared.Status.{Status}
 use Rattle.slots.specs.declared.Status.TheVariants.{Free, Running, Finished}
-use Rattle.rows.specs.Laws.{slot_beyond}
+use Rattle.rows.proofs.Laws.{slot_beyond}
 use Rattle.rules.specs.declared.Refusal.TheVariants as cause
 use Rattle.rules.specs.declared.CollectAnswer.TheVariants as collect
 use Rattle.rules.specs.World.{World, with_row, status_at}

@@ -1,3 +1,2 @@
 -- The answer that collecting a request writes.
 pub mod Answers
-pub mod Laws

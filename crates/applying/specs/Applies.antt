@@ -1,18 +1,18 @@
 -- What applying a decision asks of the memory lent, and that every decision of the rules promises it.
 use Rattle.std.specs.Prelude.{List, [], ℕ, ◌<◌, length}
 use Rattle.std.proofs.Common.{arith}
-use Rattle.context.specs.Counts.{init_ranges, init_fits}
+use Rattle.context.proofs.Counts.{init_ranges, init_fits}
 use Rattle.requests.specs.declared.Request.{Request}
-use Rattle.rows.specs.Laws.{lowest_free_is}
+use Rattle.rows.proofs.Laws.{lowest_free_is}
 use Rattle.rules.specs.declared.Decision.{Decision}
 use Rattle.rules.specs.declared.Decision.TheVariants as decide
 use Rattle.rules.specs.World.{World, store_length}
 use Rattle.rules.specs.Commands.{decide_command}
 use Rattle.rules.specs.Engines.{decide_engine}
 use Rattle.rules.specs.Calls.{Asked}
-use Rattle.rules.specs.Laws.Lent.{Sized, lent_sized}
+use Rattle.rules.proofs.Laws.Lent.{Sized, lent_sized}
 use Rattle.rules.specs.Laws.Decided.{Judging, Decided, plain, denied, misnamed, takes, closes, rests, opens}
-use Rattle.rules.specs.Laws.Decided.{command_decided, engine_decided}
+use Rattle.rules.proofs.Laws.Decided.{command_decided, engine_decided}
 use Rattle.apply_parts.specs.Parts.{Opening, Taking}
 
 -- what each decision promises of the lengths of store, room and mailbox

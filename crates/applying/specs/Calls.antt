@@ -21,7 +21,8 @@ use Rattle.rules.specs.declared.SubmitAnswer.{SubmitAnswer}
 use Rattle.rules.specs.declared.SubmitAnswer.TheVariants as submit
 use Rattle.rules.specs.World.{world, hca_of, shut, with_memory}
 use Rattle.rules.specs.Admission.{submitted, world_opened, world_closed, world_taken, applied}
-use Rattle.handed_back.specs.Handed.{submit_handed, same_row, same_row_lem}
+use Rattle.handed_back.specs.Handed.{submit_handed, same_row}
+use Rattle.handed_back.proofs.Handed.{same_row_lem}
 use Rattle.handed_back.specs.declared.Submitted.{Submitted}
 use Rattle.apply_parts.specs.Parts.{Opening, Taking, Opened}
 use Rattle.applying.specs.Applies.{Applies}

@@ -1,6 +1,3 @@
 -- The burst table of document 01, and the sizes that go with it.
 pub mod Sizes
 pub mod Bursts
-pub mod Touched
-pub mod Laws
-pub mod Totals

@@ -4,6 +4,5 @@
 -- What is claimed.
 pub mod Links
 pub mod Claims
-pub mod Theorems
+
 -- The proofs.
-pub mod Proofs

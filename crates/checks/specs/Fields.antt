@@ -1,8 +1,6 @@
 -- The fields of a record that a decision is made by.
-use Rattle.std.specs.Prelude.{◌≡◌, Bool, List, ℕ, ◌/◌, ◌≤◌, eqb, length, get_or}
-use Rattle.std.proofs.Common.{arith}
-use Rattle.words.specs.Words.{bits, AreBytes, be32}
-use Rattle.words.specs.Leaves.{le_four, be32_is}
+use Rattle.std.specs.Prelude.{Bool, List, ℕ, ◌/◌, eqb, get_or}
+use Rattle.words.specs.Words.{bits, be32}
 
 -- The state code in bits 31:28 of word 00h and the service type in bits 23:16: words are big-endian, so these are the top half of byte 0
 -- and the whole of byte 1 (01, The context store).
@@ -23,12 +21,3 @@ cq_named r = be32 0x70 r
 
 unfoldable pub eq_named : List ℕ → ℕ
 eq_named r = be32 0x10 r
-
--- Of bytes, they are the bits of word 00h that 01 names.
-pub state_bits : (r : List ℕ) → AreBytes r → 4 ≤ length r → bits 31 28 (be32 0 r) ≡ state_of r
-unfolding bits state_of
-state_bits r a h = rw (← be32_is 0 r h, le_four) (omega (arith, a 0, a 1, a 2, a 3))
-
-pub service_bits : (r : List ℕ) → AreBytes r → 4 ≤ length r → bits 23 16 (be32 0 r) ≡ service_of r
-unfolding bits service_of
-service_bits r a h = rw (← be32_is 0 r h, le_four) (omega (arith, a 0, a 1, a 2, a 3))

@@ -1,3 +1,2 @@
 -- How a command is read.
 pub mod Commands
-pub mod Reading

@@ -1,3 +1,2 @@
 -- What a request asks of its mailbox.
 pub mod Content
-pub mod Front

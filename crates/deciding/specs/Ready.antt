@@ -2,7 +2,7 @@
 use Rattle.std.specs.Prelude.{◌≡◌, Bool, true, false, not, List, ℕ, ◌≤◌, ◌<◌, ltb, length}
 use Rattle.std.proofs.Common.{sym, ◌∙◌, ap, subst, lt-ltb, le-ltb}
 use Rattle.std.proofs.lemmas.Bool.{not-false}
-use Rattle.words.specs.Choice.{both_left}
+use Rattle.words.proofs.Choice.{both_left}
 use Rattle.context.specs.Layout.{is_record, ranges_hold, fits_store}
 use Rattle.context.specs.declared.Logs.{Logs}
 use Rattle.context.specs.declared.QpNumber.{QpNumber}
@@ -20,16 +20,17 @@ use Rattle.burst_table.specs.Sizes.{slot_count}
 use Rattle.records.specs.Memory.{memory, Fits}
 use Rattle.records.specs.Calls.{Stored}
 use Rattle.slots.specs.declared.Slot.{Slot}
-use Rattle.possible.specs.Laws.{open_fits as fits-store}
+use Rattle.possible.proofs.Laws.{open_fits as fits-store}
 use Rattle.possible.specs.Possible.{impossible}
 use Rattle.possible.specs.declared.Hca.{Hca}
 use Rattle.rules.specs.World.{World, world, bad_state}
 use Rattle.rules.specs.Engines.{decide_number}
 use Rattle.rules.specs.declared.Decision.{Decision}
-use Rattle.rules.specs.Laws.Lent.{open_fits}
-use Rattle.rules.specs.Laws.Found.{Valid, engine_valid}
+use Rattle.rules.proofs.Laws.Lent.{open_fits}
+use Rattle.rules.proofs.Laws.Found.{Valid, engine_valid}
 use Rattle.rules.specs.Laws.Decided.{Passing}
-use Rattle.lengths.specs.Lengths.{lengths_wrong, passing}
+use Rattle.lengths.specs.Lengths.{lengths_wrong}
+use Rattle.lengths.proofs.Lengths.{passing}
 use Rattle.deciding_joined.specs.Named.{Has}
 
 -- while open, the counts are within their ranges and the records lie in the lent memory

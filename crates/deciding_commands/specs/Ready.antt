@@ -3,8 +3,9 @@ use Rattle.std.specs.Prelude.{◌≡◌, Bool, List, ℕ, ◌≤◌, ◌<◌, lt
 use Rattle.std.proofs.Math.Path.{refl, ap}
 use Rattle.std.proofs.Common.{◌∙◌, lt-ltb, le-ltb}
 use Rattle.std.proofs.Math.Bool.{true, false}
-use Rattle.words.specs.Choice.{either, pick_yes, pick_no}
-use Rattle.words.specs.Tests.{neither}
+use Rattle.words.specs.Choice.{either}
+use Rattle.words.proofs.Choice.{pick_yes, pick_no}
+use Rattle.words.proofs.Tests.{neither}
 use Rattle.hcr.specs.Register.{read_of}
 use Rattle.hcr.specs.declared.ReadAnswer.{ReadAnswer}
 use Rattle.rules.specs.declared.Decision.{Decision}

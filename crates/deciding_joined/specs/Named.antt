@@ -1,7 +1,7 @@
 -- What the stages of a joined read ask for, and that the stages before them give it.
 use Rattle.std.specs.Prelude.{◌≡◌, true, List, ℕ, ltb}
 use Rattle.std.proofs.Common.{sym, ◌∙◌, ap, subst}
-use Rattle.words.specs.Choice.{by_pick}
+use Rattle.words.proofs.Choice.{by_pick}
 use Rattle.context.specs.Layout.{is_record, count_of, ranges_hold}
 use Rattle.context.specs.declared.CqNumber.{CqNumber}
 use Rattle.context.specs.declared.Kind.TheVariants as kind

@@ -14,7 +14,7 @@ use Rattle.request_table.specs.Records.{command_record}
 use Rattle.records.specs.Calls.{Stored}
 use Rattle.possible.specs.declared.Hca.{Hca}
 use Rattle.rules.specs.Commands.{bad_system}
-use Rattle.rules.specs.Laws.Found.{Reads, on_record, command_reads}
+use Rattle.rules.proofs.Laws.Found.{Reads, on_record, command_reads}
 use Rattle.deciding.specs.Ready.{OpenFits, open_stored}
 
 -- the memory has the record of the command that is found

@@ -16,9 +16,11 @@ use Rattle.rules.specs.declared.Refusal.TheVariants as cause
 use Rattle.rules.specs.declared.CollectAnswer.TheVariants as collect
 use Rattle.rules.specs.World.{world}
 use Rattle.rules.specs.Collections.{Collected as After, collected, collect_refused, collect_on, collect_of}
-use Rattle.rules.specs.Laws.Lent.{lent_sized}
-use Rattle.lengths.specs.Lengths.{lengths_wrong, lent_told, passing}
-use Rattle.handed_back.specs.Handed.{collect_handed, collect_refusal, collect_refusal_lem}
+use Rattle.rules.proofs.Laws.Lent.{lent_sized}
+use Rattle.lengths.specs.Lengths.{lengths_wrong}
+use Rattle.lengths.proofs.Lengths.{lent_told, passing}
+use Rattle.handed_back.specs.Handed.{collect_handed, collect_refusal}
+use Rattle.handed_back.proofs.Handed.{collect_refusal_lem}
 use Rattle.handed_back.specs.declared.Collected.{Collected}
 use Rattle.answering.specs.Answered.{Answerable}
 use Rattle.answering.specs.Collections as made

@@ -4,7 +4,7 @@ use Rattle.std.proofs.Common.{eq-eqb, lt-ltb, le-ltb}
 use Rattle.slots.specs.Slots.{slot}
 use Rattle.slots.specs.declared.Slot.{Slot}
 use Rattle.device_bytes.specs.Decoding.{broken, slots_of, row_of}
-use Rattle.device_bytes.specs.Walks.{all_slots}
+use Rattle.device_bytes.proofs.Walks.{all_slots}
 
 pub row_broken : (dev : List ℕ) (row : List Slot) → length dev ≡ 288 → 1 < get_or dev 0 0 → row ≡ replicate 8 (slot broken) → row ≡ row_of dev
 unfolding row_of

@@ -7,15 +7,17 @@ use mathlib.Core.List.{List, [], ◌∷◌}
 use Prim.Native.Nat.{ℕ, ◌+◌, ◌<◌}
 use Rattle.std.proofs.Math.Decide.{ℕ_discrete}
 use borrow.Author.Tests.{eq-eqb, ne_eqb}
-use Rattle.words.specs.Choice.{pick, either, by_pick}
-use Rattle.words.specs.Tests.{both_false}
-use Rattle.words.specs.Parts.{part, get_or_part, part_part}
+use Rattle.words.specs.Choice.{pick, either}
+use Rattle.words.proofs.Choice.{by_pick}
+use Rattle.words.proofs.Tests.{both_false}
+use Rattle.words.specs.Parts.{part}
+use Rattle.words.proofs.Parts.{get_or_part, part_part}
 use Rattle.words.specs.Words.{le32, le_value}
 use Rattle.context.specs.Layout.{kind_of, kind_code, number_of, same_record}
 use Rattle.context.specs.declared.Record.{Record}
 use Rattle.context.specs.declared.Record.TheVariants as rec
 use Rattle.commands.specs.Commands.{read_op, command_on, command_right, owned_at}
-use Rattle.commands.specs.Reading.{command_read}
+use Rattle.commands.proofs.Reading.{command_read}
 use Rattle.commands.specs.declared.CommandFound.{CommandFound}
 use Rattle.commands.specs.declared.CommandFound.TheVariants as commandFound
 use Rattle.commands.specs.declared.Op.{Op}
@@ -25,7 +27,7 @@ use Rattle.commands.specs.declared.OpFound.TheVariants as opFound
 use Rattle.commands.specs.declared.Table.{Table}
 use Rattle.commands.specs.declared.Table.TheVariants as table
 use Rattle.engines.specs.Engines.{read_number, engine_right, request_on}
-use Rattle.engines.specs.Reading.{engine_read}
+use Rattle.engines.proofs.Reading.{engine_read}
 use Rattle.engines.specs.declared.EngineFound.{EngineFound}
 use Rattle.engines.specs.declared.EngineFound.TheVariants as engineFound
 use Rattle.engines.specs.declared.EngineNumber.{EngineNumber}

@@ -8,12 +8,12 @@ use Rattle.slots.specs.Slots.{slot, is_occupied}
 use Rattle.slots.specs.declared.Slot.{Slot}
 use Rattle.slots.specs.declared.Status.TheVariants.{Free}
 use Rattle.rows.specs.Rows.{any_slot, lowest_free}
-use Rattle.rows.specs.Scans.{any_more, any_found, any_none, free_more, free_found, free_none}
+use Rattle.rows.proofs.Scans.{any_more, any_found, any_none, free_more, free_found, free_none}
 use Rattle.rows.specs.declared.SlotFound.{SlotFound}
 use Rattle.rows.specs.declared.SlotFound.TheVariants.{At, Nothing}
 use Rattle.holds.specs.Holds.{clash_slot}
 use Rattle.device_bytes.specs.Decoding.{slot_place, slot_at, slots_of, row_of}
-use Rattle.device_bytes.specs.Walks.{length_slots, get_or_slots, free_read}
+use Rattle.device_bytes.proofs.Walks.{length_slots, get_or_slots, free_read}
 use Rattle.judging.specs.Device.{some_occupied, slots_are}
 use Rattle.device_scans.specs.Passed.{may_hold, passed}
 

@@ -15,8 +15,10 @@ use Rattle.rules.specs.declared.Refusal.{Refusal}
 use Rattle.rules.specs.declared.Refusal.TheVariants as cause
 use Rattle.rules.specs.World.{world}
 use Rattle.rules.specs.Steps.{Stepped as After, step_refused, step_on}
-use Rattle.lengths.specs.Lengths.{lengths_wrong, passing}
-use Rattle.handed_back.specs.Handed.{step_handed, step_refusal, step_refusal_lem}
+use Rattle.lengths.specs.Lengths.{lengths_wrong}
+use Rattle.lengths.proofs.Lengths.{passing}
+use Rattle.handed_back.specs.Handed.{step_handed, step_refusal}
+use Rattle.handed_back.proofs.Handed.{step_refusal_lem}
 use Rattle.handed_back.specs.declared.Stepped.{Stepped}
 use Rattle.moving.specs.Steps.{LookedUp, step_none}
 

@@ -1,8 +1,9 @@
 -- A burst of an edge: the words that the edge takes, and then the state in byte 0.
 use Rattle.std.specs.Prelude.{◌≡◌, refl, Bool, true, false, List, ℕ, ◌≤◌, ◌<◌, get_or, set, replicate}
 use Rattle.std.proofs.Common.{sym, ◌∙◌, arith, ne_eqb}
-use Rattle.words.specs.Choice.{pick_yes, pick_no}
-use Rattle.words.specs.Maps.{map_from, map_map, map_cong}
+use Rattle.words.proofs.Choice.{pick_yes, pick_no}
+use Rattle.words.specs.Maps.{map_from}
+use Rattle.words.proofs.Maps.{map_map, map_cong}
 use Rattle.edges.specs.Edges.{to_of}
 use Rattle.edges.specs.declared.State.{State}
 use Rattle.edges.specs.declared.Edge.{Edge}

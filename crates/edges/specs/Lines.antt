@@ -1,12 +1,11 @@
 -- How the code writes the decision down: what leads out of a state is a set of moves, one line for each state (02, wish 3). No rule stands
 -- here: a line is right if its set has exactly the moves that `permits` has.
-use Rattle.std.specs.Prelude.{◌≡◌, refl, Bool, true, false, not, ℕ, ◌<◌, eqb}
-use Rattle.std.proofs.Common.{sym, arith}
+use Rattle.std.specs.Prelude.{◌≡◌, Bool, true, not, ℕ, eqb}
 use Rattle.std.specs.Int.Bits.{bit_and}
 use Rattle.words.specs.Choice.{pick}
 use Rattle.edges.specs.States.{rc, uc}
 use Rattle.edges.specs.Edges.{permits}
-use Rattle.edges.specs.Every.{none_permitted, agrees, all_agree}
+use Rattle.edges.specs.Every.{agrees}
 use Rattle.edges.specs.declared.State.{State}
 use Rattle.edges.specs.declared.State.TheVariants.{Reset, Init, Rtr, Rts, Sqe, Sqd, Err}
 use Rattle.edges.specs.declared.Edge.{Edge}
@@ -58,30 +57,3 @@ pub record Leads (code set : ℕ) : Type 0 where
 -- ---- a line's test: of every move, for RC and for UC
 abbrev pub LineRight : ℕ → ℕ → Type 0
 LineRight code set = (agrees (has set) code rc ≡ true) × (agrees (has set) code uc ≡ true)
-
-has_as_uc : (set : ℕ) (asked : Move) (service : ℕ) → eqb service rc ≡ false → has set asked service ≡ has set asked uc
-has_as_uc set (Command edge) service e = refl
-has_as_uc set (Engine Reset) service e = refl
-has_as_uc set (Engine Init) service e = refl
-has_as_uc set (Engine Rtr) service e = refl
-has_as_uc set (Engine Rts) service e = refl
-has_as_uc set (Engine Sqe) service e = rw e
-has_as_uc set (Engine Sqd) service e = refl
-has_as_uc set (Engine Err) service e = refl
-
--- a line that passes the test is right
-pub line : (code set k : ℕ) → code ≡ k → LineRight k set → Leads code set
-line code set k e t = record { exactly = λ asked service. rw e (all_agree (has set) k (has_as_uc set) t.0 t.1 asked service) }
-
--- a code that is none of the seven is above 6
-past_three : (code : ℕ) → ¬ (code ≡ 0) → ¬ (code ≡ 1) → ¬ (code ≡ 2) → ¬ (code ≡ 3) → 3 < code
-past_three code a b c d = omega arith
-
-past_six : (code : ℕ) → 3 < code → ¬ (code ≡ 4) → ¬ (code ≡ 5) → ¬ (code ≡ 6) → 6 < code
-past_six code h a b c = omega arith
-
--- so the empty set is right for it
-pub last_line : (code : ℕ) → ¬ (code ≡ 0) → ¬ (code ≡ 1) → ¬ (code ≡ 2) → ¬ (code ≡ 3) → ¬ (code ≡ 4) → ¬ (code ≡ 5) → ¬ (code ≡ 6)
-    → Leads code 0
-last_line code a b c d e f g =
-    record { exactly = λ asked service. sym (none_permitted code (past_six code (past_three code a b c d) e f g) asked service) }

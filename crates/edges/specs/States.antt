@@ -1,6 +1,5 @@
 -- The states and service types of a queue pair, as codes in word 00h of its record (01, The context store).
-use Rattle.std.specs.Prelude.{Bool, ℕ, ◌<◌, eqb, leb}
-use Rattle.std.proofs.Common.{lit<}
+use Rattle.std.specs.Prelude.{Bool, ℕ, eqb, leb}
 use Rattle.words.specs.Choice.{either}
 use Rattle.edges.specs.declared.State.{State}
 use Rattle.edges.specs.declared.State.TheVariants.{Reset, Init, Rtr, Rts, Sqe, Sqd, Err}
@@ -32,13 +31,3 @@ ud = 3
 -- The types that RESET to INIT accepts (01, Commands).
 unfoldable pub is_service : ℕ → Bool
 is_service t = either (eqb t rc) (either (eqb t uc) (eqb t ud))
-
--- A code is below 7, so it fits the four bits that a record has for it.
-pub state_code_small : (s : State) → state_code s < 7
-state_code_small Reset = lit< tt
-state_code_small Init = lit< tt
-state_code_small Rtr = lit< tt
-state_code_small Rts = lit< tt
-state_code_small Sqe = lit< tt
-state_code_small Sqd = lit< tt
-state_code_small Err = lit< tt

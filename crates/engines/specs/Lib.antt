@@ -1,3 +1,2 @@
 -- How an engine request is read.
 pub mod Engines
-pub mod Reading

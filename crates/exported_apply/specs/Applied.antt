@@ -26,7 +26,7 @@ use Rattle.applying.specs.Applies.{Applies}
 use Rattle.device_bytes.specs.Decoding.{row_of, hca_of}
 use Rattle.device_bytes.specs.Encoding.{put_slot, put_header}
 use Rattle.device_calls.specs.Calls.{world_of, slot_in, Left, left, submit_left}
-use Rattle.device_calls.specs.Tests.{eight}
+use Rattle.device_calls.proofs.Tests.{eight}
 
 -- the device has its bytes and this state, and what is lent has the lengths that the decision asks for
 pub record Ready (h : Hca) (dev : List ℕ) (s r m : ℕ) (d : Decision) : Type 0 where

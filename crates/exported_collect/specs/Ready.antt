@@ -21,12 +21,13 @@ use Rattle.slots.specs.declared.Status.TheVariants.{Free, Running, Finished}
 use Rattle.rules.specs.World.{World, status_at, bad_lent, bad_state}
 use Rattle.rules.specs.Collections.{collect_on, collect_of}
 use Rattle.rules.specs.Laws.Decided.{Passing}
-use Rattle.rules.specs.Laws.Lent.{lent_sized}
+use Rattle.rules.proofs.Laws.Lent.{lent_sized}
 use Rattle.answering.specs.Collections as made
 use Rattle.device_bytes.specs.Decoding.{slot_at, row_of}
 use Rattle.device_bytes.specs.Encoding.{put_slot}
 use Rattle.device_calls.specs.Calls.{world_of, slot_in, Taken, taken, collect_left, collect_call}
-use Rattle.device_calls.specs.Tests.{first_number, first_is, world_number, Tested, tested, eight, read_slot, past_eighth}
+use Rattle.device_calls.specs.Tests.{first_number, first_is, world_number, Tested, tested}
+use Rattle.device_calls.proofs.Tests.{eight, read_slot, past_eighth}
 
 -- what is known of a device that passed the first tests, of its room and of one of its slots
 pub record Ready (dev room : List ℕ) (k : ℕ) : Type 0 where

@@ -16,7 +16,7 @@ use Rattle.slots.specs.declared.Slot.{Slot}
 use Rattle.rows.specs.Rows.{any_slot}
 use Rattle.holds.specs.Holds.{clash_slot, held_against}
 use Rattle.possible.specs.declared.Hca.{Hca}
-use Rattle.rules.specs.Laws.Found.{Alone, Valid, engine_valid}
+use Rattle.rules.proofs.Laws.Found.{Alone, Valid, engine_valid}
 use Rattle.deciding.specs.Ready.{OpenFits, EngineStored, engine_stored}
 use Rattle.device_scans.specs.Scans.{HasRow}
 

@@ -11,9 +11,9 @@ use Rattle.rules.specs.World.{shut, bad_row}
 use Rattle.rules.specs.Resets.{reset_of}
 use Rattle.device_bytes.specs.Decoding.{row_of, hca_of}
 use Rattle.device_bytes.specs.Encoding.{hca_bytes, row_bytes, device_bytes, put_header}
-use Rattle.device_bytes.specs.Headers.{length_header, length_put}
+use Rattle.device_bytes.proofs.Headers.{length_header, length_put}
 use Rattle.device_calls.specs.Calls.{emptied, reset_left, reset_call}
-use Rattle.device_calls.specs.Tests.{eight}
+use Rattle.device_calls.proofs.Tests.{eight}
 
 -- eight empty slots are all zero
 zeros : replicate 256 0 ≡ row_bytes empty_row

@@ -9,7 +9,8 @@ use Rattle.std.proofs.Math.Decide.{dec_lt}
 use native.Mathlib.Omega.{arith}
 use borrow.Author.Tests.{eqb-true, eq-eqb, ne_eqb, lt-ltb, le-ltb}
 use Rattle.words.specs.Choice.{pick, both}
-use Rattle.words.specs.Parts.{part, get_or_part, part_part}
+use Rattle.words.specs.Parts.{part}
+use Rattle.words.proofs.Parts.{get_or_part, part_part}
 use Rattle.words.specs.Words.{le32, le_value}
 use Rattle.context.specs.declared.Logs.{Logs}
 use Rattle.context.specs.declared.Record.{Record}
@@ -17,10 +18,10 @@ use Rattle.requests.specs.declared.Command.TheVariants as command
 use Rattle.requests.specs.declared.Request.{Request}
 use Rattle.requests.specs.declared.Request.TheVariants as request
 use Rattle.commands.specs.Commands.{read_op, command_right}
-use Rattle.commands.specs.Reading.{command_found}
+use Rattle.commands.proofs.Reading.{command_found}
 use Rattle.commands.specs.declared.Op.TheVariants as op
 use Rattle.engines.specs.Engines.{read_number, engine_right}
-use Rattle.engines.specs.Reading.{engine_found}
+use Rattle.engines.proofs.Reading.{engine_found}
 use Rattle.engines.specs.declared.EngineNumber.TheVariants as number
 use Rattle.slot_requests.specs.Requests.{any_index, on_record, command_in}
 use Rattle.slot_requests.specs.declared.RequestFound.{RequestFound}

@@ -1,12 +1,11 @@
 -- The world afterwards, of each operation, from what it was handed and what it hands back; its `ensures` says that this is the world of
 -- the rules. And what is handed back where no slot changes: slot 0 as it was, so that the row is as it was.
-use Rattle.std.specs.Prelude.{◌≡◌, refl, List, [], ◌∷◌, ℕ, get_or, set}
-use Rattle.std.proofs.Common.{◌∙◌, ap}
+use Rattle.std.specs.Prelude.{List, ℕ, get_or, set}
 use Rattle.slots.specs.Slots.{slot}
 use Rattle.slots.specs.declared.Slot.{Slot}
 use Rattle.slots.specs.declared.Status.TheVariants.{Free}
 use Rattle.possible.specs.declared.Hca.{Hca}
-use Rattle.rules.specs.World.{World, world}
+use Rattle.rules.specs.World.{world}
 use Rattle.rules.specs.declared.Refusal.{Refusal}
 use Rattle.rules.specs.declared.SubmitAnswer.{SubmitAnswer}
 use Rattle.rules.specs.declared.StepAnswer.TheVariants as step
@@ -45,26 +44,3 @@ step_refusal row c = record { answer = step.Refused c; at = 0; slot = get_or row
 
 abbrev pub collect_refusal : List Slot → Refusal → Collected
 collect_refusal row c = record { answer = collect.Refused c; at = 0; slot = get_or row 0 (slot Free) }
-
--- the row is then as it was
-pub set_first : (row : List Slot) (d : Slot) → set row 0 (get_or row 0 d) ≡ row
-set_first [] d = refl
-set_first (x ∷ row) d = refl
-
-pub same_row_lem : (row : List Slot) (store room : List ℕ) (a : SubmitAnswer) (h : Hca) (r : Submitted) → r ≡ same_row row a h
-    → submit_handed row store room r ≡ admission.submitted a (world h row store room)
-same_row_lem row store room a h r e =
-    ap (submit_handed row store room) e
-    ∙ ap (λ (l : List Slot). admission.submitted a (world h l store room)) (set_first row (slot Free))
-
-pub step_refusal_lem : (h : Hca) (row : List Slot) (store room : List ℕ) (c : Refusal) (r : Stepped) → r ≡ step_refusal row c
-    → step_handed h row store room r ≡ steps.step_refused (world h row store room) c
-step_refusal_lem h row store room c r e =
-    ap (step_handed h row store room) e
-    ∙ ap (λ (l : List Slot). steps.step_refused (world h l store room) c) (set_first row (slot Free))
-
-pub collect_refusal_lem : (h : Hca) (row : List Slot) (store room out : List ℕ) (c : Refusal) (r : Collected) → r ≡ collect_refusal row c
-    → collect_handed h row store room out r ≡ collections.collect_refused (world h row store room) out c
-collect_refusal_lem h row store room out c r e =
-    ap (collect_handed h row store room out) e
-    ∙ ap (λ (l : List Slot). collections.collect_refused (world h l store room) out c) (set_first row (slot Free))

@@ -1,3 +1,2 @@
 -- What a running request holds, as numbers.
 pub mod Codes
-pub mod Meeting

@@ -1,4 +1,2 @@
 -- Holds.
 pub mod Holds
-pub mod Clashes
-pub mod Laws

@@ -6,21 +6,22 @@ use Rattle.std.proofs.lemmas.Bool.{false≢true}
 use borrow.Author.Tests.{not-true, not-false, lt-ltb, le-ltb, ne_eqb}
 use Rattle.std.proofs.Math.ListN.{get_or}
 use Rattle.words.specs.Choice.{pick}
-use Rattle.words.specs.Parts.{part, get_or_part}
+use Rattle.words.specs.Parts.{part}
+use Rattle.words.proofs.Parts.{get_or_part}
 use Rattle.context.specs.Layout.{fits_store}
 use Rattle.slots.specs.Slots.{slot, occupied_status, is_occupied}
 use Rattle.slots.specs.declared.Slot.{Slot}
 use Rattle.slots.specs.declared.Status.TheVariants.{Running, Finished}
 use Rattle.rows.specs.Rows.{any_slot}
-use Rattle.rows.specs.Every.{at, none_each}
+use Rattle.rows.proofs.Every.{at, none_each}
 use Rattle.slot_checks.specs.SlotChecks.{slot_wrong}
 use Rattle.possible.specs.Possible.{open_impossible, impossible}
-use Rattle.possible.specs.Rows.{open_row}
+use Rattle.possible.proofs.Rows.{open_row}
 use Rattle.possible.specs.declared.Hca.{Hca}
 use Rattle.slot_requests.specs.declared.RequestFound.{RequestFound}
 use Rattle.slot_requests.specs.declared.RequestFound.TheVariants.{Request, Wrong}
 use Rattle.device_bytes.specs.Decoding.{slot_place, request_in, broken, status_held, status_of, slot_at, slots_of, row_of}
-use Rattle.device_bytes.specs.Walks.{get_or_slots, skip_slots}
+use Rattle.device_bytes.proofs.Walks.{get_or_slots, skip_slots}
 use Rattle.slot_judging.specs.Laws.{broken_wrong}
 use Rattle.judging.specs.Judging.{slots_impossible, open_device}
 

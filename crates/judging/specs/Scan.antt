@@ -5,21 +5,23 @@ use Rattle.std.proofs.Common.{sym, ◌∙◌, ap₂, add-zero, arith, lit<}
 use Rattle.std.proofs.lemmas.Bool.{false≢true}
 use Rattle.std.proofs.Math.Decide.{dec_lt}
 use Rattle.std.proofs.Math.Nat.{add-sub_cancel_left}
-use Rattle.words.specs.Choice.{both, either, both_left, both_right, both_yes}
-use Rattle.words.specs.Parts.{part, get_or_part}
-use Rattle.words.specs.Tests.{both_false, either_false}
+use Rattle.words.specs.Choice.{both, either}
+use Rattle.words.proofs.Choice.{both_left, both_right, both_yes}
+use Rattle.words.specs.Parts.{part}
+use Rattle.words.proofs.Parts.{get_or_part}
+use Rattle.words.proofs.Tests.{both_false, either_false}
 use Rattle.context.specs.declared.Logs.{Logs}
 use Rattle.slots.specs.Slots.{slot, has_command}
 use Rattle.slots.specs.declared.Status.TheVariants.{Free}
 use Rattle.rows.specs.Rows.{any_slot}
-use Rattle.rows.specs.Every.{at, none_each, each_none}
+use Rattle.rows.proofs.Every.{at, none_each, each_none}
 use Rattle.slot_checks.specs.SlotChecks.{slot_wrong}
 use Rattle.possible.specs.Possible.{both_commands, slots_clash}
-use Rattle.possible.specs.Pairs.{clashes_swap}
+use Rattle.possible.proofs.Pairs.{clashes_swap}
 use Rattle.device_bytes.specs.Decoding.{slot_place, slot_at, slots_of}
-use Rattle.device_bytes.specs.Walks.{length_slots, get_or_slots, free_behind, more_slots, skip_slots}
+use Rattle.device_bytes.proofs.Walks.{length_slots, get_or_slots, free_behind, more_slots, skip_slots}
 use Rattle.hold_codes.specs.Codes.{no_hold, hold_of, holds_meet}
-use Rattle.hold_codes.specs.Meeting.{meet_is}
+use Rattle.hold_codes.proofs.Meeting.{meet_is}
 use Rattle.hold_codes.specs.declared.Hold.{Hold}
 use Rattle.slot_judging.specs.Judging.{judged_of}
 use Rattle.slot_judging.specs.Laws.{judged_wrong, judged_command, judged_hold}

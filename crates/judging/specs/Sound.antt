@@ -3,16 +3,16 @@ use Rattle.std.specs.Prelude.{◌≡◌, Bool, true, false, List, [], ◌∷◌,
 use Rattle.std.proofs.Math.Path.{refl}
 use Rattle.std.proofs.Common.{◌∙◌, ap, arith}
 use Rattle.words.specs.Choice.{either}
-use Rattle.words.specs.Tests.{neither_left, neither_right, neither, either_swap, either_assoc}
+use Rattle.words.proofs.Tests.{neither_left, neither_right, neither, either_swap, either_assoc}
 use Rattle.context.specs.declared.Logs.{Logs}
 use Rattle.slots.specs.Slots.{slot, has_command}
 use Rattle.slots.specs.declared.Slot.{Slot}
 use Rattle.rows.specs.Rows.{any_slot, empty_row}
-use Rattle.rows.specs.Every.{at, None, NoTwo, none_each, each_none, none_set, pairs_set}
+use Rattle.rows.proofs.Every.{at, None, NoTwo, none_each, each_none, none_set, pairs_set}
 use Rattle.slot_checks.specs.SlotChecks.{slot_wrong}
 use Rattle.possible.specs.Possible.{two_commands, both_commands, slots_clash}
-use Rattle.possible.specs.Pairs.{commands_swap, commands_pairs, pairs_commands, clashes_swap, clashes_pairs, pairs_clashes}
-use Rattle.device_bytes.specs.Walks.{free_empty}
+use Rattle.possible.proofs.Pairs.{commands_swap, commands_pairs, pairs_commands, clashes_swap, clashes_pairs, pairs_clashes}
+use Rattle.device_bytes.proofs.Walks.{free_empty}
 use Rattle.hold_codes.specs.Codes.{no_hold, hold_of}
 use Rattle.hold_codes.specs.declared.Hold.{Hold}
 use Rattle.judging.specs.Judging.{holds_row, slots_impossible}

@@ -1,31 +1,10 @@
 -- The first rows of the table of refusals, as the operations test them, and what a world that passed them is like.
-use Rattle.std.specs.Prelude.{◌≡◌, Bool, false, not, List, ℕ, eqb, ltb, length}
-use Rattle.std.proofs.Common.{sym, ◌∙◌, eq-eqb}
+use Rattle.std.specs.Prelude.{Bool, not, ℕ, eqb, ltb}
 use Rattle.words.specs.Choice.{both, either}
-use Rattle.burst_table.specs.Sizes.{slot_count, room_size}
-use Rattle.slots.specs.declared.Slot.{Slot}
-use Rattle.possible.specs.Possible.{impossible}
+use Rattle.burst_table.specs.Sizes.{room_size}
 use Rattle.possible.specs.declared.Hca.{Hca}
-use Rattle.rules.specs.World.{world, bad_row, bad_store, bad_lent, bad_state}
-use Rattle.rules.specs.Laws.Decided.{Passing}
 
 -- of a row of eight slots: the room has their parts and, while open, the store is as long as the one that INIT_HCA was lent
 -- (01, Numbers returned, the first 0x83)
 unfoldable pub lengths_wrong : Hca → ℕ → ℕ → Bool
 lengths_wrong h store room = either (ltb room room_size) (both h.«open» (not (eqb store h.store_len)))
-
-module _ (h : Hca) (row : List Slot) (store room : List ℕ) (n : length row ≡ slot_count) where
-  pub lengths_lent : bad_lent (world h row store room) ≡ lengths_wrong h (length store) (length room)
-  unfolding lengths_wrong bad_lent bad_row bad_store
-  lengths_lent = rw (eq-eqb (length row) slot_count n)
-
--- as the two tests answered
-pub lent_told : (h : Hca) (row : List Slot) (store room : List ℕ) (b t : Bool) → length row ≡ slot_count
-    → b ≡ lengths_wrong h (length store) (length room) → b ≡ t → bad_lent (world h row store room) ≡ t
-lent_told h row store room b t n e f = lengths_lent h row store room n ∙ sym e ∙ f
-
-pub passing : (h : Hca) (row : List Slot) (store room : List ℕ) (a b : Bool) → length row ≡ slot_count
-    → a ≡ lengths_wrong h (length store) (length room) → a ≡ false → b ≡ impossible h row → b ≡ false
-    → Passing (world h row store room)
-unfolding bad_state
-passing h row store room a b n e f p q = record { lent = lent_told h row store room a false n e f; possible = sym p ∙ q }

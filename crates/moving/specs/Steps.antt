@@ -4,7 +4,7 @@ use Rattle.std.proofs.Common.{sym, ◌∙◌, ⊎_elim, arith}
 use Rattle.std.proofs.Math.Path.{ap}
 use types.Run.{OneOf}
 use denote.Enum.Declared.{tag_of, declared}
-use Rattle.words.specs.Choice.{both_left, pick_no}
+use Rattle.words.proofs.Choice.{both_left, pick_no}
 use Rattle.context.specs.Layout.{ranges_hold, fits_store}
 use Rattle.requests.specs.declared.Request.{Request}
 use Rattle.request_table.specs.Records.{records_of}
@@ -16,15 +16,15 @@ use Rattle.slots.specs.declared.Slot.{Slot}
 use Rattle.slots.specs.declared.Status.{Status}
 use Rattle.slots.specs.declared.Status.TheVariants.{Free, Running, Finished}
 use Rattle.slots.specs.contracts.Status as Status'
-use Rattle.possible.specs.Laws.{open_fits as fits}
+use Rattle.possible.proofs.Laws.{open_fits as fits}
 use Rattle.possible.specs.declared.Hca.{Hca}
 use Rattle.rules.specs.declared.Refusal.TheVariants as cause
 use Rattle.rules.specs.declared.StepAnswer.TheVariants as step
 use Rattle.rules.specs.World.{World, world, with_row, with_memory, with_room, status_at, bad_lent, bad_state}
 use Rattle.rules.specs.Steps.{Stepped, stepped, step_refused, slot_moved, world_moved, memory_moved, room_moved, step_on, step_of}
 use Rattle.rules.specs.Laws.Decided.{Passing}
-use Rattle.rules.specs.Laws.Lent.{Sized, Runs, lent_sized, in_row, open_fits, running}
-use Rattle.rules.specs.Laws.Outcomes.{running_open}
+use Rattle.rules.proofs.Laws.Lent.{Sized, Runs, lent_sized, in_row, open_fits, running}
+use Rattle.rules.proofs.Laws.Outcomes.{running_open}
 use Rattle.moving.specs.Moves.{Moved, moved, burst_moved}
 
 -- slot k, looked up in a world that passed the first tests

@@ -3,9 +3,12 @@ use Rattle.std.specs.Prelude.{◌≡◌, refl, List, ℕ, ◌+◌, ◌≤◌, �
 use Rattle.std.proofs.Common.{sym, ◌∙◌, arith, eq-eqb, ne_eqb}
 use Rattle.std.proofs.Math.Decide.{ℕ_discrete}
 use Rattle.std.proofs.lemmas.List.{get_or-replicate}
-use Rattle.words.specs.Choice.{pick, pick_yes, pick_no}
-use Rattle.words.specs.Parts.{splice, splice_all}
-use Rattle.words.specs.Maps.{map_from, map_same}
+use Rattle.words.specs.Choice.{pick}
+use Rattle.words.proofs.Choice.{pick_yes, pick_no}
+use Rattle.words.specs.Parts.{splice}
+use Rattle.words.proofs.Parts.{splice_all}
+use Rattle.words.specs.Maps.{map_from}
+use Rattle.words.proofs.Maps.{map_same}
 use Rattle.burst_table.specs.Sizes.{burst_size}
 use Rattle.word_moves.specs.Maps.{made_from, map_put, map_agrees}
 

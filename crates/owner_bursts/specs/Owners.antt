@@ -3,9 +3,11 @@ use Rattle.std.specs.Prelude.{◌≡◌, refl, List, ◌⊎◌, ℕ, ◌+◌, �
 use Rattle.std.proofs.Common.{sym, ◌∙◌, ap, inl, inr, arith, ne_eqb}
 use Rattle.std.proofs.Math.Decide.{dec_lt, ℕ_discrete}
 use Rattle.words.specs.Choice.{pick}
-use Rattle.words.specs.Tests.{within_yes, within_no}
-use Rattle.words.specs.Parts.{part, splice, length_part, get_or_part}
-use Rattle.words.specs.Maps.{map_from, map_map}
+use Rattle.words.proofs.Tests.{within_yes, within_no}
+use Rattle.words.specs.Parts.{part, splice}
+use Rattle.words.proofs.Parts.{length_part, get_or_part}
+use Rattle.words.specs.Maps.{map_from}
+use Rattle.words.proofs.Maps.{map_map}
 use Rattle.requests.specs.declared.Owned.{Owned}
 use Rattle.requests.specs.declared.Owned.TheVariants as owned
 use Rattle.mailboxes.specs.Mailboxes.{stored_of}

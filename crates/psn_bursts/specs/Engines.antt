@@ -5,7 +5,8 @@ use Rattle.std.proofs.Common.{sym, ◌∙◌, ap, arith, eq-eqb, ne_eqb}
 use Rattle.std.proofs.Math.Decide.{ℕ_discrete}
 use Rattle.std.proofs.Math.ListN.{length, length-set}
 use Rattle.words.specs.Choice.{pick}
-use Rattle.words.specs.Maps.{map_from, map_map, map_same}
+use Rattle.words.specs.Maps.{map_from}
+use Rattle.words.proofs.Maps.{map_map, map_same}
 use Rattle.edges.specs.declared.State.{State}
 use Rattle.requests.specs.declared.PsnField.{PsnField}
 use Rattle.requests.specs.declared.PsnField.TheVariants.{NextSend, LastAcked, Expected}

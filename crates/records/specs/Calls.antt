@@ -7,7 +7,7 @@ use native.Mathlib.Omega.{arith}
 use borrow.Author.Tests.{lt-ltb, le-ltb}
 use Rattle.words.specs.Parts.{part, splice}
 use Rattle.context.specs.Layout.{is_record, record_at, record_size, bytes_of, in_use, ranges_hold}
-use Rattle.context.specs.Records.{record_inside, record_small}
+use Rattle.context.proofs.Records.{record_inside, record_small}
 use Rattle.context.specs.declared.CqNumber.{CqNumber}
 use Rattle.context.specs.declared.EqNumber.{EqNumber}
 use Rattle.context.specs.declared.Logs.{Logs}
@@ -24,7 +24,7 @@ use Rattle.request_table.specs.declared.Records.TheVariants as records
 use Rattle.mailboxes.specs.Mailboxes.{need_of}
 use Rattle.burst_table.specs.Sizes.{burst_size, slot_count, slot_room, room_size, slot_start}
 use Rattle.burst_table.specs.Bursts.{joined_size, total_of, offset_of}
-use Rattle.burst_table.specs.Laws.{offset_joined, offset_small, offset_room, need_small, all_offset}
+use Rattle.burst_table.proofs.Laws.{offset_joined, offset_small, offset_room, need_small, all_offset}
 use Rattle.checks.specs.Permission.{permission_of}
 use Rattle.bursts.specs.Moves.{write_at, copy_at}
 use Rattle.bursts.specs.Room.{front_of, room_copied}

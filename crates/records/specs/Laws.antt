@@ -9,27 +9,30 @@ use Prim.Native.Nat.{ℕ, ◌+◌, ◌-◌, ◌*◌, ◌/◌, ◌≤◌, ◌<◌
 use Rattle.std.proofs.Math.Decide.{dec_lt, dec_le}
 use Rattle.std.proofs.Math.ListN.{length-replicate, get_or-replicate}
 use Rattle.std.proofs.Math.Seq.{ext_get_or}
-use Rattle.words.specs.Choice.{pick, both_left, both_right}
-use Rattle.words.specs.Tails.{part_left, part_right}
-use Rattle.words.specs.Parts.{part, splice, length_part, get_or_part, length_splice, splice_in, splice_below, splice_above, part_part}
+use Rattle.words.specs.Choice.{pick}
+use Rattle.words.proofs.Choice.{both_left, both_right}
+use Rattle.words.proofs.Tails.{part_left, part_right}
+use Rattle.words.specs.Parts.{part, splice}
+use Rattle.words.proofs.Parts.{length_part, get_or_part, length_splice, splice_in, splice_below, splice_above, part_part}
 use Rattle.context.specs.Layout.{is_record, record_at, record_size, bytes_of, in_use}
-use Rattle.context.specs.Records.{record_inside, records_apart}
-use Rattle.context.specs.Tables.{Apart}
+use Rattle.context.proofs.Records.{record_inside, records_apart}
+use Rattle.context.proofs.Tables.{Apart}
 use Rattle.context.specs.declared.Logs.{Logs}
 use Rattle.context.specs.declared.Record.{Record}
 use Rattle.requests.specs.declared.Request.{Request}
 use Rattle.request_table.specs.Records.{record_of, records_of, all_records, writes_of}
 use Rattle.burst_table.specs.Sizes.{burst_size, slot_count, room_size}
 use Rattle.burst_table.specs.Bursts.{joined_size, bursts_of, total_of, offset_of}
-use Rattle.burst_table.specs.Touched.{fit_at}
-use Rattle.burst_table.specs.Laws.{size_bursts, bursts_joined, offset_burst, offset_small, offset_room}
+use Rattle.burst_table.proofs.Touched.{fit_at}
+use Rattle.burst_table.proofs.Laws.{size_bursts, bursts_joined, offset_burst, offset_small, offset_room}
 use Rattle.byte_rule.specs.Bytes.{byte_of}
 use Rattle.bursts.specs.Moves.{written_part, write_at}
-use Rattle.bursts.specs.Leaves.{length_written_part}
+use Rattle.bursts.proofs.Leaves.{length_written_part}
 use Rattle.bursts.specs.Bursts.{burst}
 use Rattle.bursts.specs.Copies.{copy}
-use Rattle.bursts.specs.Room.{room_of, room_copied, own_copied}
-use Rattle.bursts.specs.Store.{length_write_at, write_at_apart, write_at_record}
+use Rattle.bursts.specs.Room.{room_of, room_copied}
+use Rattle.bursts.proofs.Room.{own_copied}
+use Rattle.bursts.proofs.Store.{length_write_at, write_at_apart, write_at_record}
 use Rattle.records.specs.Memory.{Memory, memory, record_in, joined_in, AllRecords, Fits, place_in}
 use Rattle.records.specs.Memory.{burst_place, written, read_out, zeroed, InBurst, Behind}
 

@@ -2,9 +2,11 @@
 use Rattle.std.specs.Prelude.{◌≡◌, List, [], ◌∷◌, ◌++◌, ℕ, suc, ◌+◌, ◌*◌, ◌/◌, ◌%◌, ◌^◌, ◌≤◌, ◌<◌, length, get_or, set, take, drop}
 use Rattle.std.proofs.Common.{sym, ◌∙◌, ap, append_assoc, mod-lt, div-add-mod', add-one, arith, lit<, drop-cons, take-add, drop-drop}
 use Rattle.std.proofs.lemmas.List.Edits.{sets-eq}
-use Rattle.words.specs.Parts.{part, splice, length_part}
-use Rattle.words.specs.Words.{le_value, le_bytes, le32, length_le_bytes}
-use Rattle.hcr.specs.WordList.{splice_more}
+use Rattle.words.specs.Parts.{part, splice}
+use Rattle.words.proofs.Parts.{length_part}
+use Rattle.words.specs.Words.{le_value, le_bytes, le32}
+use Rattle.words.proofs.Words.{length_le_bytes}
+use Rattle.hcr.proofs.WordList.{splice_more}
 use Rattle.register_calls.specs.Calls.{number_at}
 
 -- ---- read

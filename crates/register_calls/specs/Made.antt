@@ -6,7 +6,8 @@ use Rattle.std.proofs.Math.Bool.{true, false}
 use borrow.Author.Tests.{lt-ltb, le-ltb}
 use Rattle.words.specs.Choice.{pick, either}
 use Rattle.words.specs.Parts.{splice}
-use Rattle.words.specs.Words.{le_bytes, length_le_bytes}
+use Rattle.words.specs.Words.{le_bytes}
+use Rattle.words.proofs.Words.{length_le_bytes}
 use Rattle.hcr.specs.declared.HcrCommand.{HcrCommand}
 use Rattle.hcr.specs.declared.ReadAnswer.{ReadAnswer}
 use Rattle.hcr.specs.declared.ReadAnswer.TheVariants as reads
@@ -14,7 +15,7 @@ use Rattle.hcr.specs.declared.WriteAnswer.{WriteAnswer}
 use Rattle.hcr.specs.declared.WriteAnswer.TheVariants as writes
 use Rattle.hcr.specs.Register.{bit, command_of, well_formed, read_rows, read_of}
 use Rattle.hcr.specs.Register.{register_of, write_rows, write_of, bytes_after, written_of, write_answer_number}
-use Rattle.hcr.specs.WordList.{splice_more}
+use Rattle.hcr.proofs.WordList.{splice_more}
 use Rattle.register_calls.specs.Calls.{Left, left, fields_of, command_in, read_call, write_call}
 
 -- ---- the fields, stored one behind the other

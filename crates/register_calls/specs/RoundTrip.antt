@@ -4,15 +4,17 @@ use Rattle.std.proofs.Math.Path.{refl, ap}
 use Rattle.std.proofs.Common.{sym, ◌∙◌, append_assoc, append-nil, pow-suc, arith, lit<, take-add}
 use Rattle.std.proofs.Math.ListN.{length}
 use Rattle.std.proofs.Math.Seq.{drop-cons}
-use Rattle.words.specs.Parts.{part, splice, length_part, length_splice}
-use Rattle.words.specs.Words.{bits, AreBytes, le_value, le_bytes, le32, le_round, le_back}
+use Rattle.words.specs.Parts.{part, splice}
+use Rattle.words.proofs.Parts.{length_part, length_splice}
+use Rattle.words.specs.Words.{bits, AreBytes, le_value, le_bytes, le32}
+use Rattle.words.proofs.Words.{le_round, le_back}
 use Rattle.hcr.specs.declared.HcrCommand.{HcrCommand}
 use Rattle.hcr.specs.declared.ReadAnswer.{ReadAnswer}
 use Rattle.hcr.specs.declared.WriteAnswer.TheVariants as writes
-use Rattle.hcr.specs.Fields.{bit_small, bit_tested, tested_bit}
+use Rattle.hcr.proofs.Fields.{bit_small, bit_tested, tested_bit}
 use Rattle.hcr.specs.Register.{param_at, command_of, well_formed, written_of}
-use Rattle.hcr.specs.RoundTrip.{Fits, read_write, write_read}
-use Rattle.hcr.specs.WordList.{bytes_part, le32_small, word_back}
+use Rattle.hcr.proofs.RoundTrip.{Fits, read_write, write_read}
+use Rattle.hcr.proofs.WordList.{bytes_part, le32_small, word_back}
 use Rattle.register_calls.specs.Calls.{Left, left, fields_of, number_at, command_in, read_call, write_call}
 use Rattle.register_calls.specs.Made.{fields_left, read_made, write_made}
 

@@ -1,5 +1,5 @@
 -- The numbers by which a request is submitted (01, Commands; 01, Engine requests; 02, wish 2). Reading them gives the request's kind back.
-use Rattle.std.specs.Prelude.{◌≡◌, refl, ℕ}
+use Rattle.std.specs.Prelude.{ℕ}
 use Rattle.context.specs.Layout.{number_of}
 use Rattle.request_table.specs.Records.{record_of}
 use Rattle.edges.specs.declared.Edge.{Edge}
@@ -16,12 +16,8 @@ use Rattle.requests.specs.declared.Request.{Request}
 use Rattle.commands.specs.declared.Op.{Op}
 use Rattle.commands.specs.declared.Op.TheVariants as op
 use Rattle.commands.specs.declared.Table.TheVariants as table
-use Rattle.commands.specs.declared.OpFound.TheVariants as opFound
-use Rattle.commands.specs.Commands.{read_op}
 use Rattle.engines.specs.declared.EngineNumber.{EngineNumber}
 use Rattle.engines.specs.declared.EngineNumber.TheVariants as number
-use Rattle.engines.specs.declared.NumberFound.TheVariants as numberFound
-use Rattle.engines.specs.Engines.{read_number}
 
 abbrev pub edge_op : Edge → ℕ
 edge_op edge.ResetToInit = 0x19
@@ -72,7 +68,7 @@ index_of r = number_of (record_of r)
 -- ---- what reads them
 
 -- the op of a command, as it is read
-abbrev op_of : Command → Op
+abbrev pub op_of : Command → Op
 op_of (command.Sw2Hw (owned.Mpt n)) = op.Sw2Hw table.Mpt
 op_of (command.Sw2Hw (owned.Eq n)) = op.Sw2Hw table.Eq
 op_of (command.Sw2Hw (owned.Cq n)) = op.Sw2Hw table.Cq
@@ -83,42 +79,10 @@ op_of (command.ResizeCq n) = op.ResizeCq
 op_of (command.QueryQp n) = op.QueryQp
 op_of (command.ModifyQp e n) = op.ModifyQp e
 
-pub op_read : (c : Command) → read_op (command_op c) ≡ opFound.Served (op_of c)
-unfolding read_op
-op_read (command.Sw2Hw (owned.Mpt n)) = refl
-op_read (command.Sw2Hw (owned.Eq n)) = refl
-op_read (command.Sw2Hw (owned.Cq n)) = refl
-op_read (command.Hw2Sw (owned.Mpt n)) = refl
-op_read (command.Hw2Sw (owned.Eq n)) = refl
-op_read (command.Hw2Sw (owned.Cq n)) = refl
-op_read (command.ResizeCq n) = refl
-op_read (command.QueryQp n) = refl
-op_read (command.ModifyQp edge.ResetToInit n) = refl
-op_read (command.ModifyQp edge.InitToInit n) = refl
-op_read (command.ModifyQp edge.InitToRtr n) = refl
-op_read (command.ModifyQp edge.RtrToRts n) = refl
-op_read (command.ModifyQp edge.RtsToRts n) = refl
-op_read (command.ModifyQp edge.SqeToRts n) = refl
-op_read (command.ModifyQp edge.RtsToSqd n) = refl
-op_read (command.ModifyQp edge.SqdToSqd n) = refl
-op_read (command.ModifyQp edge.SqdToRts n) = refl
-op_read (command.ModifyQp edge.ToErr n) = refl
-op_read (command.ModifyQp edge.ToReset n) = refl
-
 -- the number of an engine request, as it is read
-abbrev numbered_as : EngineRequest → EngineNumber
+abbrev pub numbered_as : EngineRequest → EngineNumber
 numbered_as (engine.ReadState n) = number.ReadState
 numbered_as (engine.ReadNext n) = number.ReadNext
 numbered_as (engine.ReadAll n) = number.ReadAll
 numbered_as (engine.Write p s n x) = number.Write p
 numbered_as (engine.ReadJoined n c e) = number.ReadJoined
-
-pub number_read : (e : EngineRequest) → read_number (engine_number e) ≡ numberFound.Served (numbered_as e)
-unfolding read_number
-number_read (engine.ReadState n) = refl
-number_read (engine.ReadNext n) = refl
-number_read (engine.ReadAll n) = refl
-number_read (engine.Write psn.NextSend s n x) = refl
-number_read (engine.Write psn.LastAcked s n x) = refl
-number_read (engine.Write psn.Expected s n x) = refl
-number_read (engine.ReadJoined n c e) = refl

@@ -1,5 +1,3 @@
 -- The request table of document 01: which records, and whether they are written.
 pub mod Records
 pub mod Listed
-pub mod Sizes
-pub mod Laws

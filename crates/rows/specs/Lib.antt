@@ -1,5 +1,2 @@
 -- The row of eight slots.
 pub mod Rows
-pub mod Scans
-pub mod Every
-pub mod Laws

@@ -1,4 +1,4 @@
--- The rules of document 01 as definitions on values and lists, and the demands as theorems about them.
+-- The rules of document 01 as definitions on values and lists, and the demands as statements about them.
 --
 -- The rules: the numbers returned, what is lent, and the calls; each definition has its rule above it, with the section of 01.
 pub mod Numbers
@@ -20,10 +20,5 @@ pub mod Demand2
 pub mod Demand3
 pub mod Running
 pub mod Frames
-pub mod Theorems
--- Calls whose answers are written out by hand from document 01, and computed.
-pub mod Scripts
-pub mod Order
--- The laws that operations stand on, and the proofs.
+-- What operations know of a world that passed the first tests.
 pub mod Laws
-pub mod Proofs

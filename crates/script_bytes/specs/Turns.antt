@@ -2,7 +2,8 @@
 use Rattle.std.specs.Prelude.{◌≡◌, refl, Bool, true, false, List, [], ◌∷◌, ℕ, ◌+◌, ◌≤◌, ◌<◌, ltb, length, get_or, set, drop}
 use Rattle.std.proofs.Common.{sym, ◌∙◌, zero-add, add-one, arith, drop_of_length-le, drop-cons, length-take-le, le-ltb, lt-ltb}
 use Rattle.words.specs.Choice.{pick}
-use Rattle.words.specs.Maps.{map_first, step_map_first}
+use Rattle.words.specs.Maps.{map_first}
+use Rattle.words.proofs.Maps.{step_map_first}
 use Rattle.script_numbers.specs.Numbers.{digit_of}
 use Rattle.script_bytes.specs.Bytes.{all_digits, Front}
 

@@ -2,7 +2,8 @@
 use Rattle.std.specs.Prelude.{◌≡◌, refl, Bool, true, false, List, ℕ, zero, suc, ◌+◌, ◌-◌, ◌≤◌, ◌<◌, eqb, leb, set, replicate}
 use Rattle.std.proofs.Common.{sym, ◌∙◌, ap, arith, eq-eqb, ne_eqb, le-leb}
 use Rattle.std.proofs.lemmas.Bool.{lt-leb}
-use Rattle.words.specs.Choice.{both, pick_yes, pick_no}
+use Rattle.words.specs.Choice.{both}
+use Rattle.words.proofs.Choice.{pick_yes, pick_no}
 use Rattle.script_words.specs.Words.{spaces}
 use Rattle.script_numbers.specs.declared.NumberFound.{NumberFound}
 use Rattle.script_numbers.specs.declared.NumberFound.TheVariants as found

@@ -2,7 +2,8 @@
 use Rattle.std.specs.Prelude.{◌≡◌, refl, Bool, true, false, List, [], ◌∷◌, ℕ, suc, ◌+◌, ◌-◌, ◌*◌, ◌≤◌, ◌<◌, ◌^◌, leb, ltb, length, get_or, take, drop}
 use Rattle.std.proofs.Common.{sym, ◌∙◌, mul-le-mul_left, lt_of_le_of_lt, le_of_lt, add-one, arith, length-drop, drop_of_length-le, drop-cons, take_all, leb-true, le-ltb, lt-ltb, le-leb}
 use Rattle.std.proofs.lemmas.Bool.{lt-leb}
-use Rattle.words.specs.Choice.{pick, both_left, told, pick_yes, pick_no}
+use Rattle.words.specs.Choice.{pick}
+use Rattle.words.proofs.Choice.{both_left, told, pick_yes, pick_no}
 use Rattle.script_numbers.specs.Numbers.{digit_of, read_digits, digits_of, is_hexadecimal, number_of}
 use Rattle.script_numbers.specs.declared.NumberFound.{NumberFound}
 use Rattle.script_numbers.specs.declared.NumberFound.TheVariants.{Number, Wrong}

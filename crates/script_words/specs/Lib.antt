@@ -1,3 +1,2 @@
 -- The words of a line.
 pub mod Words
-pub mod Turns

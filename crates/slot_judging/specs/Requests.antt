@@ -13,7 +13,7 @@ use Rattle.requests.specs.declared.Command.{Command}
 use Rattle.requests.specs.declared.Command.TheVariants as command
 use Rattle.requests.specs.declared.Request.TheVariants as request
 use Rattle.commands.specs.Commands.{read_op, op_modifier_of, read_command, command_right, in_modifier_right, command_on, owned_at}
-use Rattle.commands.specs.Reading.{command_read}
+use Rattle.commands.proofs.Reading.{command_read}
 use Rattle.commands.specs.declared.CommandFound.{CommandFound}
 use Rattle.commands.specs.declared.CommandFound.TheVariants as found
 use Rattle.commands.specs.declared.Table.TheVariants as table
@@ -21,7 +21,7 @@ use Rattle.commands.specs.declared.Op.{Op}
 use Rattle.commands.specs.declared.Op.TheVariants as op
 use Rattle.commands.specs.declared.OpFound.{OpFound}
 use Rattle.engines.specs.Engines.{read_number, read_engine, engine_right, fields_right, request_on}
-use Rattle.engines.specs.Reading.{engine_read}
+use Rattle.engines.proofs.Reading.{engine_read}
 use Rattle.engines.specs.declared.EngineFound.{EngineFound}
 use Rattle.engines.specs.declared.EngineFound.TheVariants as engineFound
 use Rattle.engines.specs.declared.EngineNumber.{EngineNumber}

@@ -2,7 +2,8 @@
 use Rattle.std.specs.Prelude.{◌≡◌, List, ℕ, ◌+◌, ◌-◌, ◌*◌, eqb, get_or, take, drop}
 use Rattle.std.proofs.Common.{◌∙◌, ap, eq-eqb, ne_eqb}
 use Rattle.std.proofs.Math.Nat.{add-sub_cancel_left}
-use Rattle.words.specs.Choice.{pick, pick_yes, pick_no}
+use Rattle.words.specs.Choice.{pick}
+use Rattle.words.proofs.Choice.{pick_yes, pick_no}
 use Rattle.words.specs.Parts.{part}
 use Rattle.words.specs.Words.{le32}
 use Rattle.context.specs.declared.Logs.{Logs}

@@ -12,7 +12,7 @@ use Rattle.commands.specs.declared.OpFound.TheVariants as opFound
 use Rattle.commands.specs.declared.CommandFound.{CommandFound}
 use Rattle.commands.specs.declared.CommandFound.TheVariants as commandFound
 use Rattle.engines.specs.Engines.{read_number, read_engine, engine_right}
-use Rattle.engines.specs.Reading.{engine_found}
+use Rattle.engines.proofs.Reading.{engine_found}
 use Rattle.engines.specs.declared.EngineNumber.{EngineNumber}
 use Rattle.engines.specs.declared.EngineNumber.TheVariants as number
 use Rattle.engines.specs.declared.NumberFound.{NumberFound}

@@ -1,12 +1,8 @@
 -- The state that a caller begins with, and that it is possible with an empty row.
-use Rattle.std.specs.Prelude.{◌≡◌, refl, false, List, replicate, take}
+use Rattle.std.specs.Prelude.{false, List, replicate}
 use Rattle.slots.specs.Slots.{slot}
 use Rattle.slots.specs.declared.Slot.{Slot}
 use Rattle.slots.specs.declared.Status.TheVariants.{Free}
-use Rattle.context.specs.declared.Logs.{Logs}
-use Rattle.rows.specs.Rows.{empty_row}
-use Rattle.possible.specs.Possible.{impossible}
-use Rattle.possible.specs.Laws.{empty_possible}
 use Rattle.possible.specs.declared.Hca.{Hca}
 
 -- closed (01, Commands: INIT_HCA opens); of a closed state neither counts nor length are looked at
@@ -14,13 +10,6 @@ abbrev pub closed_state : Hca
 closed_state =
     record { «open» = false; logs = record { qps = 0; cqs = 0; eqs = 0; mpts = 0 }; store_len = 0 }
 
-pub closed_possible : impossible closed_state empty_row ≡ false
-closed_possible = empty_possible closed_state refl
-
 -- nine slots, of which a program lends the front
 abbrev pub nine_free : List Slot
 nine_free = replicate 9 (slot Free)
-
--- eight of them are an empty row
-pub nine_front : take 8 nine_free ≡ empty_row
-nine_front = refl

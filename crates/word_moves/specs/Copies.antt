@@ -3,10 +3,13 @@
 use Rattle.std.specs.Prelude.{◌≡◌, refl, Bool, true, false, List, ℕ, ◌+◌, ◌-◌, ◌%◌, ◌≤◌, ◌<◌, eqb, length, get_or, set}
 use Rattle.std.proofs.Common.{sym, ◌∙◌, ap, arith, eq-eqb, ne_eqb, lt-ltb, le-ltb}
 use Rattle.std.proofs.Math.Decide.{dec_lt, ℕ_discrete}
-use Rattle.words.specs.Choice.{pick, pick_yes, pick_no}
-use Rattle.words.specs.Parts.{part, splice, length_part, get_or_part, length_splice, splice_below, splice_in, splice_above}
-use Rattle.words.specs.Maps.{map_from, map_map}
-use Rattle.words.specs.Leaves.{part_four, splice_four}
+use Rattle.words.specs.Choice.{pick}
+use Rattle.words.proofs.Choice.{pick_yes, pick_no}
+use Rattle.words.specs.Parts.{part, splice}
+use Rattle.words.proofs.Parts.{length_part, get_or_part, length_splice, splice_below, splice_in, splice_above}
+use Rattle.words.specs.Maps.{map_from}
+use Rattle.words.proofs.Maps.{map_map}
+use Rattle.words.proofs.Leaves.{part_four, splice_four}
 use Rattle.byte_rule.specs.Taken.{word_of}
 use Rattle.word_moves.specs.Places.{on_word, before}
 use Rattle.word_moves.specs.Maps.{made_from, map_agrees, map_leaves}

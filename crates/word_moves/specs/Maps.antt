@@ -2,8 +2,10 @@
 use Rattle.std.specs.Prelude.{◌≡◌, refl, List, ℕ, ◌+◌, ◌≤◌, ◌<◌, eqb, length, get_or, set}
 use Rattle.std.proofs.Common.{sym, ◌∙◌, ap, arith, eq-eqb, ne_eqb, length-set, ext_get_or, get_or-set_same, get_or-set_other}
 use Rattle.std.proofs.Math.Decide.{ℕ_discrete}
-use Rattle.words.specs.Choice.{pick, pick_yes, pick_no}
-use Rattle.words.specs.Maps.{map_from, length_map_from, get_or_map_from}
+use Rattle.words.specs.Choice.{pick}
+use Rattle.words.proofs.Choice.{pick_yes, pick_no}
+use Rattle.words.specs.Maps.{map_from}
+use Rattle.words.proofs.Maps.{length_map_from, get_or_map_from}
 
 -- what is as long as r and has f of each place and element is the map of r
 pub made_from : (f : ℕ → ℕ → ℕ) (at : ℕ) (l r : List ℕ) → length l ≡ length r

@@ -2,13 +2,14 @@
 use Rattle.std.specs.Prelude.{◌≡◌, Bool, true, false, List, ℕ, ◌+◌, ◌%◌, ◌≤◌, ◌<◌, length}
 use Rattle.std.proofs.Common.{sym, ◌∙◌, ap, arith, lt-ltb, le-ltb}
 use Rattle.words.specs.Parts.{part, splice}
-use Rattle.words.specs.Maps.{map_from, length_map_from}
+use Rattle.words.specs.Maps.{map_from}
+use Rattle.words.proofs.Maps.{length_map_from}
 use Rattle.edges.specs.declared.Edge.{Edge}
 use Rattle.mailboxes.specs.Mailboxes.{edge_need}
 use Rattle.burst_table.specs.Sizes.{burst_size}
 use Rattle.byte_rule.specs.Taken.{takes_word, word_of}
 use Rattle.byte_rule.specs.Bytes.{taken_byte}
-use Rattle.byte_rule.specs.Needed.{taken_word}
+use Rattle.byte_rule.proofs.Needed.{taken_word}
 use Rattle.word_moves.specs.Places.{on_word, before, image_byte, Burst, Word}
 use Rattle.word_moves.specs.Copies.{word_taken, word_left, words_step, words_done}
 

@@ -1,8 +1,5 @@
 -- Bytes and words on lists: the definitions that the crates above cite, and their laws.
 pub mod Choice
-pub mod Tests
 pub mod Parts
 pub mod Words
 pub mod Maps
-pub mod Tails
-pub mod Leaves

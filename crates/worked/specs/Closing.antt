@@ -7,9 +7,9 @@ use Rattle.rules.specs.Book.{Fed, close_hca, nop, book_number, gated, with_recor
 use Rattle.rules.specs.Calls.{engine_request, step, collection, resetting, world_after}
 use Rattle.rules.specs.Lending.{proper}
 use Rattle.rules.specs.Demand3.{answered, run_from, Run, done, finished_in, given, book_of, Demand3}
-use Rattle.rules.specs.Theorems.{demand3}
-use Rattle.rules.specs.Scripts.{Line, room_there, store_there, lending, enough, ◌gets◌, ◌on◌, lent_of, given_by, answers_from, all_steps, asked}
-use Rattle.rules.specs.Scripts.{asks, init_mail, image, before, first, start, everything}
+use Rattle.rules.proofs.Theorems.{demand3}
+use Rattle.rules.proofs.Scripts.{Line, room_there, store_there, lending, enough, ◌gets◌, ◌on◌, lent_of, given_by, answers_from, all_steps, asked}
+use Rattle.rules.proofs.Scripts.{asks, init_mail, image, before, first, start, everything}
 use Rattle.worked.specs.Worked.{read_state, begins_it, seven_slots, short_room, short_store}
 
 -- ---- CLOSE_HCA

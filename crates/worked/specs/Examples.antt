@@ -31,7 +31,7 @@ use Rattle.rules.specs.Commands.{submit_command}
 use Rattle.rules.specs.Engines.{submit_engine}
 use Rattle.rules.specs.Steps.{step_of}
 use Rattle.rules.specs.Whole.{whole_effect, set_state, set_psn}
-use Rattle.rules.specs.Scripts.{hcr_of, image, everything}
+use Rattle.rules.proofs.Scripts.{hcr_of, image, everything}
 
 -- an example: n of Pn, what the definitions give, and what document 01 gives
 pub record Row : Type 0 where

@@ -12,8 +12,8 @@ use Rattle.rules.specs.Whole.{take_words, set_state, set_psn}
 use Rattle.rules.specs.Calls.{engine_request, collection}
 use Rattle.rules.specs.Lending.{proper}
 use Rattle.rules.specs.Demand3.{Entry, turned_away, answered, in_slot, run_from, Run, Done, done, finished_in, given, book_of, Demand3}
-use Rattle.rules.specs.Theorems.{demand3}
-use Rattle.rules.specs.Scripts.{Line, ◌gets◌, lent_of, given_by, answers_from, all_steps, asked, asks, before, first, start, everything}
+use Rattle.rules.proofs.Theorems.{demand3}
+use Rattle.rules.proofs.Scripts.{Line, ◌gets◌, lent_of, given_by, answers_from, all_steps, asked, asks, before, first, start, everything}
 use Rattle.worked.specs.Worked.{to_init, to_rtr, to_rts, begins_it}
 
 -- an image of a queue pair whose type is RC

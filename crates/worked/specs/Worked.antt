@@ -5,7 +5,7 @@ use Rattle.std.specs.Prelude.{◌≡◌, refl, true, List, [], ◌∷◌, ◌++�
 use Rattle.std.proofs.Common.{sym, subst, subst₂}
 use Rattle.std.proofs.lemmas.Bool.{false≢true}
 use Rattle.context.specs.Layout.{is_record, same_record}
-use Rattle.context.specs.Records.{record_same}
+use Rattle.context.proofs.Records.{record_same}
 use Rattle.context.specs.declared.Record.TheVariants as rec
 use Rattle.edges.specs.declared.State.TheVariants.{Rtr, Rts, Err}
 use Rattle.edges.specs.declared.Edge.TheVariants.{ResetToInit, InitToRtr, RtrToRts}
@@ -27,9 +27,9 @@ use Rattle.rules.specs.Calls.{engine_request, step, collection, resetting}
 use Rattle.rules.specs.Lending.{Lent, begins_lent, proper}
 use Rattle.rules.specs.Demand3.{Entry, turned_away, answered, in_slot, run_from, Run, Done, done, finished_in, given}
 use Rattle.rules.specs.Demand3.{book_of, Unwritten, Demand3}
-use Rattle.rules.specs.Theorems.{demand3}
-use Rattle.rules.specs.Scripts.{Line, room_there, store_there, lending, enough, ◌gets◌, ◌on◌, lent_of, given_by, answers_from, asked}
-use Rattle.rules.specs.Scripts.{all_steps, by_turns, up_from, asks, image, before, first, start, everything}
+use Rattle.rules.proofs.Theorems.{demand3}
+use Rattle.rules.proofs.Scripts.{Line, room_there, store_there, lending, enough, ◌gets◌, ◌on◌, lent_of, given_by, answers_from, asked}
+use Rattle.rules.proofs.Scripts.{all_steps, by_turns, up_from, asks, image, before, first, start, everything}
 
 -- ---- The mailboxes: of the edge to RTR; of SW2HW_CQ, with the index 1 in word 2Ch; of RESIZE_CQ
 

@@ -6,7 +6,7 @@ use Rattle.slots.specs.declared.Status.TheVariants.{Free, Running, Finished}
 use Rattle.rules.specs.World.{World, world, hca_of}
 use Rattle.rules.specs.Names.{joins}
 use Rattle.rules.specs.Calls.{engine_request, step, collection}
-use Rattle.rules.specs.Scripts.{Line, room_there, store_there, ◌gets◌, lent_of, given_by, answers_from, everything}
+use Rattle.rules.proofs.Scripts.{Line, room_there, store_there, ◌gets◌, lent_of, given_by, answers_from, everything}
 
 -- open, with two queue pairs, two completion queues, one event queue and one memory region, all records zero: each names completion queue
 -- 0 and event queue 0

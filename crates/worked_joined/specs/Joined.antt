@@ -20,9 +20,9 @@ use Rattle.rules.specs.Calls.{engine_request, step, collection}
 use Rattle.rules.specs.Lending.{begins_lent, proper}
 use Rattle.rules.specs.Demand3.{Entry, turned_away, answered, in_slot, run_from, Run, Done, done, finished_in, given, book_of, Demand3}
 use Rattle.rules.specs.Running.{Stands}
-use Rattle.rules.specs.Theorems.{demand3, running}
-use Rattle.rules.specs.Scripts.{Line, enough, ◌gets◌, ◌on◌, lent_of, given_by, answers_from, all_steps, asked, up_from, asks, before, first}
-use Rattle.rules.specs.Scripts.{start, everything}
+use Rattle.rules.proofs.Theorems.{demand3, running}
+use Rattle.rules.proofs.Scripts.{Line, enough, ◌gets◌, ◌on◌, lent_of, given_by, answers_from, all_steps, asked, up_from, asks, before, first}
+use Rattle.rules.proofs.Scripts.{start, everything}
 
 -- ---- The mailboxes
 

@@ -1,5 +1,5 @@
 -- `answers::command_answer` meets its contract.
-use Rattle.words.specs.Parts.{splice_none}
+use Rattle.words.proofs.Parts.{splice_none}
 use mathlib.Core.Path.{sym}
 use borrow.Author.Rules.{rules}
 use Rattle.answers.proofs.command_answer.Statement.{statement}

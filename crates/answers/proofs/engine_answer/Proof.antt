@@ -1,5 +1,5 @@
 -- `answers::engine_answer` meets its contract.
-use Rattle.words.specs.Parts.{splice_none}
+use Rattle.words.proofs.Parts.{splice_none}
 use mathlib.Core.Path.{sym}
 use borrow.Author.Rules.{rules}
 use Rattle.answers.proofs.engine_answer.Statement.{statement}

@@ -3,7 +3,8 @@ use mathlib.Core.Path.{◌∙◌}
 use Prim.Native.Nat.{◌≤◌}
 use native.Mathlib.Omega.{arith}
 use lib.ListN.{length, length-set}
-use Rattle.words.specs.Parts.{part, length_part, splice_first}
+use Rattle.words.specs.Parts.{part}
+use Rattle.words.proofs.Parts.{length_part, splice_first}
 use Rattle.answers.specs.Answers.{next_answer}
 use borrow.Author.Rules.{rules}
 use Rattle.answers.proofs.next_answer.Statement.{statement}

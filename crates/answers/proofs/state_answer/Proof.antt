@@ -1,6 +1,6 @@
 -- `answers::state_answer` meets its contract.
 use Rattle.answers.specs.Answers.{state_answer}
-use Rattle.words.specs.Parts.{splice_one}
+use Rattle.words.proofs.Parts.{splice_one}
 use borrow.Author.Rules.{rules}
 use Rattle.answers.proofs.state_answer.Statement.{statement}
 use Rattle.answers.proofs.state_answer.Tie as tie

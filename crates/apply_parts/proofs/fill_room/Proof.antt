@@ -1,5 +1,5 @@
 -- `apply_parts::fill_room` meets its contract.
-use Rattle.apply_parts.specs.Parts.{front_length, front_inside, fill_leaves}
+use Rattle.apply_parts.proofs.Parts.{front_length, front_inside, fill_leaves}
 use borrow.Author.Rules.{rules}
 use Rattle.apply_parts.proofs.fill_room.Statement.{statement}
 use Rattle.apply_parts.proofs.fill_room.Tie as tie

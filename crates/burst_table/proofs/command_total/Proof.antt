@@ -1,5 +1,5 @@
 -- `burst_table::command_total` meets its contract.
-use Rattle.burst_table.specs.Laws.{sw2hw_total, hw2sw_total}
+use Rattle.burst_table.proofs.Laws.{sw2hw_total, hw2sw_total}
 use borrow.Author.Rules.{rules}
 use Rattle.burst_table.proofs.command_total.Statement.{statement}
 use Rattle.burst_table.proofs.command_total.Tie as tie

@@ -1,5 +1,5 @@
 -- `burst_table::engine_offset` meets its contract.
-use Rattle.burst_table.specs.Laws.{all_offset, state_offset}
+use Rattle.burst_table.proofs.Laws.{all_offset, state_offset}
 use mathlib.Core.Path.{refl}
 use borrow.Author.Rules.{rules}
 use Rattle.burst_table.proofs.engine_offset.Statement.{statement}

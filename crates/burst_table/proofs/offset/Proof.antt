@@ -1,5 +1,5 @@
 -- `burst_table::offset` meets its contract.
-use Rattle.burst_table.specs.Laws.{command_offset}
+use Rattle.burst_table.proofs.Laws.{command_offset}
 use borrow.Author.Rules.{rules}
 use Rattle.burst_table.proofs.offset.Statement.{statement}
 use Rattle.burst_table.proofs.offset.Tie as tie

@@ -1,5 +1,5 @@
 -- `burst_table::psn_offset` meets its contract.
-use Rattle.burst_table.specs.Laws.{psn_first, psn_second}
+use Rattle.burst_table.proofs.Laws.{psn_first, psn_second}
 use borrow.Author.Rules.{rules}
 use Rattle.burst_table.proofs.psn_offset.Statement.{statement}
 use Rattle.burst_table.proofs.psn_offset.Tie as tie

@@ -1,7 +1,7 @@
 -- `burst_writes::command_burst` meets its contract.
 use mathlib.Core.Path.{sym}
 use borrow.Author.Rules.{rules}
-use Rattle.words.specs.Maps.{map_same}
+use Rattle.words.proofs.Maps.{map_same}
 use Rattle.owner_bursts.specs.Maps.{zero_map}
 use Rattle.burst_writes.proofs.command_burst.Statement.{statement}
 use Rattle.burst_writes.proofs.command_burst.Tie as tie

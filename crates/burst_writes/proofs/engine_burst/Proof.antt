@@ -1,7 +1,7 @@
 -- `burst_writes::engine_burst` meets its contract.
 use mathlib.Core.Path.{sym}
 use borrow.Author.Rules.{rules}
-use Rattle.words.specs.Maps.{map_same}
+use Rattle.words.proofs.Maps.{map_same}
 use Rattle.burst_writes.proofs.engine_burst.Statement.{statement}
 use Rattle.burst_writes.proofs.engine_burst.Tie as tie
 

@@ -1,6 +1,6 @@
 -- `bursts::read_at` meets its contract.
 use borrow.Author.Rules.{rules}
-use Rattle.bursts.specs.Leaves.{copied_lent}
+use Rattle.bursts.proofs.Leaves.{copied_lent}
 use Rattle.bursts.proofs.read_at.Statement.{statement}
 use Rattle.bursts.proofs.read_at.Tie as tie
 

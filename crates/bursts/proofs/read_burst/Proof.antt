@@ -1,7 +1,7 @@
 -- `bursts::read_burst` meets its contract.
 use mathlib.Core.Path.{refl}
 use borrow.Author.Rules.{rules}
-use Rattle.bursts.specs.Leaves.{copied_through}
+use Rattle.bursts.proofs.Leaves.{copied_through}
 use Rattle.bursts.proofs.read_burst.Statement.{statement}
 use Rattle.bursts.proofs.read_burst.Tie as tie
 

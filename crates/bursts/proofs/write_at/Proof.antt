@@ -1,6 +1,6 @@
 -- `bursts::write_at` meets its contract.
 use borrow.Author.Rules.{rules}
-use Rattle.bursts.specs.Leaves.{written_lent}
+use Rattle.bursts.proofs.Leaves.{written_lent}
 use Rattle.bursts.specs.Moves.{written_part}
 use Rattle.bursts.proofs.write_at.Statement.{statement}
 use Rattle.bursts.proofs.write_at.Tie as tie

@@ -1,5 +1,5 @@
 -- `byte_rule::in_range` meets its contract.
-use Rattle.words.specs.Choice.{cases}
+use Rattle.words.proofs.Choice.{cases}
 use Rattle.byte_rule.proofs.in_range.Statement.{statement}
 use Rattle.byte_rule.proofs.in_range.Tie as tie
 

@@ -1,5 +1,5 @@
 -- `byte_rule::in_range_or` meets its contract.
-use Rattle.words.specs.Choice.{cases}
+use Rattle.words.proofs.Choice.{cases}
 use borrow.Author.Rules.{rules}
 use Rattle.byte_rule.proofs.in_range_or.Statement.{statement}
 use Rattle.byte_rule.proofs.in_range_or.Tie as tie

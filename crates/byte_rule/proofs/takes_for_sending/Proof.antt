@@ -1,5 +1,5 @@
 -- `byte_rule::takes_for_sending` meets its contract.
-use Rattle.words.specs.Choice.{cases}
+use Rattle.words.proofs.Choice.{cases}
 use borrow.Author.Rules.{rules}
 use Rattle.byte_rule.proofs.takes_for_sending.Statement.{statement}
 use Rattle.byte_rule.proofs.takes_for_sending.Tie as tie

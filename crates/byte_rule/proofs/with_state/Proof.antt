@@ -1,8 +1,8 @@
 -- `byte_rule::with_state` meets its contract.
 use native.Mathlib.Omega.{arith}
-use Rattle.edges.specs.States.{state_code_small}
+use Rattle.edges.proofs.States.{state_code_small}
 use Rattle.byte_rule.specs.Bytes.{with_state}
-use Rattle.words.specs.Choice.{cases}
+use Rattle.words.proofs.Choice.{cases}
 use borrow.Author.Rules.{rules}
 use Rattle.byte_rule.proofs.with_state.Statement.{statement}
 use Rattle.byte_rule.proofs.with_state.Tie as tie

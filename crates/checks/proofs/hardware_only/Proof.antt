@@ -1,5 +1,5 @@
 -- `checks::hardware_only` meets its contract.
-use Rattle.words.specs.Choice.{cases}
+use Rattle.words.proofs.Choice.{cases}
 use borrow.Author.Rules.{rules}
 use Rattle.checks.proofs.hardware_only.Statement.{statement}
 use Rattle.checks.proofs.hardware_only.Tie as tie

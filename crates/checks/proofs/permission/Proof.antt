@@ -1,5 +1,5 @@
 -- `checks::permission` meets its contract.
-use Rattle.checks.specs.Permission.{permission_told}
+use Rattle.checks.proofs.Permission.{permission_told}
 use borrow.Author.Rules.{rules}
 use Rattle.checks.proofs.permission.Statement.{statement}
 use Rattle.checks.proofs.permission.Tie as tie

@@ -4,7 +4,7 @@ use native.Mathlib.Nat.{add-sub_cancel_left}
 use native.Mathlib.Omega.{arith}
 use lib.ListN.{length-take, length-drop}
 use Rattle.words.specs.Parts.{part}
-use Rattle.context.specs.Records.{size_least}
+use Rattle.context.proofs.Records.{size_least}
 use Rattle.request_table.specs.Records.{record_of}
 use borrow.Author.Rules.{rules}
 use Rattle.checks.proofs.permission_at.Statement.{statement}

@@ -1,5 +1,5 @@
 -- `checks::software_only` meets its contract.
-use Rattle.words.specs.Choice.{cases}
+use Rattle.words.proofs.Choice.{cases}
 use borrow.Author.Rules.{rules}
 use Rattle.checks.proofs.software_only.Statement.{statement}
 use Rattle.checks.proofs.software_only.Tie as tie

@@ -1,5 +1,5 @@
 -- `commands::at_once` meets its contract.
-use Rattle.words.specs.Choice.{cases}
+use Rattle.words.proofs.Choice.{cases}
 use Rattle.commands.proofs.at_once.Statement.{statement}
 use Rattle.commands.proofs.at_once.Tie as tie
 

@@ -1,7 +1,7 @@
 -- `commands::read_command` meets its contract.
 use Rattle.commands.specs.Commands.{read_command}
-use Rattle.commands.specs.Reading.{command_answer_lem}
-use Rattle.words.specs.Choice.{cases}
+use Rattle.commands.proofs.Reading.{command_answer_lem}
+use Rattle.words.proofs.Choice.{cases}
 use borrow.Author.Rules.{rules}
 use Rattle.commands.proofs.read_command.Statement.{statement}
 use Rattle.commands.proofs.read_command.Tie as tie

@@ -1,7 +1,7 @@
 -- `commands::read_op` meets its contract.
 use Rattle.commands.specs.Commands.{read_op}
-use Rattle.commands.specs.Reading.{op_answer}
-use Rattle.words.specs.Choice.{cases}
+use Rattle.commands.proofs.Reading.{op_answer}
+use Rattle.words.proofs.Choice.{cases}
 use Rattle.commands.proofs.read_op.Statement.{statement}
 use Rattle.commands.proofs.read_op.Tie as tie
 

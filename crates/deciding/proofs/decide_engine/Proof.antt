@@ -1,6 +1,6 @@
 -- `deciding::decide_engine` meets its contract.
-use Rattle.words.specs.Choice.{cases}
-use Rattle.lengths.specs.Lengths.{lent_told}
+use Rattle.words.proofs.Choice.{cases}
+use Rattle.lengths.proofs.Lengths.{lent_told}
 use Rattle.rules.specs.World.{bad_state}
 use Rattle.rules.specs.Engines.{decide_engine}
 use Rattle.deciding.specs.Ready.{tested_fits, number_told}

@@ -1,7 +1,7 @@
 -- `deciding::decide_known` meets its contract.
 use mathlib.Core.Path.{refl, ◌∙◌, ap}
 use native.Mathlib.Omega.{arith}
-use Rattle.words.specs.Choice.{pick_yes, pick_no, told, cases}
+use Rattle.words.proofs.Choice.{pick_yes, pick_no, told, cases}
 use Rattle.rules.specs.Admission.{decide_verdict, decide_request}
 use Rattle.deciding.specs.Ready.{told_not, short, long}
 use borrow.Author.Rules.{rules}

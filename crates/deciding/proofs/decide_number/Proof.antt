@@ -1,6 +1,6 @@
 -- `deciding::decide_number` meets its contract.
 use mathlib.Core.Path.{refl, ◌∙◌, ap}
-use Rattle.words.specs.Choice.{pick_yes, pick_no}
+use Rattle.words.proofs.Choice.{pick_yes, pick_no}
 use Rattle.rules.specs.Engines.{decide_asked, decide_number}
 use Rattle.deciding.specs.Ready.{engine_stored}
 use borrow.Author.Rules.{rules}

@@ -1,7 +1,7 @@
 -- `deciding_commands::decide_command` meets its contract.
 use native.Mathlib.Omega.{arith}
-use Rattle.words.specs.Choice.{told}
-use Rattle.lengths.specs.Lengths.{lent_told}
+use Rattle.words.proofs.Choice.{told}
+use Rattle.lengths.proofs.Lengths.{lent_told}
 use Rattle.rules.specs.World.{bad_state}
 use Rattle.deciding.specs.Ready.{tested_fits}
 use Rattle.deciding_commands.specs.Ready.{lent_refused, hcr_refused, state_refused, register_goes}

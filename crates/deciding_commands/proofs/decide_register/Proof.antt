@@ -1,6 +1,6 @@
 -- `deciding_commands::decide_register` meets its contract.
 use mathlib.Core.Path.{refl, ◌∙◌, ap}
-use Rattle.words.specs.Choice.{pick_yes, pick_no}
+use Rattle.words.proofs.Choice.{pick_yes, pick_no}
 use Rattle.rules.specs.Commands.{decide_op, decide_register}
 use borrow.Author.Rules.{rules}
 use Rattle.deciding_commands.proofs.decide_register.Statement.{statement}

@@ -1,6 +1,6 @@
 -- `deciding_joined::decide_cq` meets its contract.
 use mathlib.Core.Path.{refl}
-use Rattle.words.specs.Choice.{pick_yes, pick_no, told}
+use Rattle.words.proofs.Choice.{pick_yes, pick_no, told}
 use Rattle.rules.specs.Engines.{decide_cq}
 use Rattle.deciding_joined.specs.Named.{eq_told}
 use borrow.Author.Rules.{rules}

@@ -1,6 +1,6 @@
 -- `deciding_joined::decide_eq` meets its contract.
 use mathlib.Core.Path.{refl, ◌∙◌, ap}
-use Rattle.words.specs.Choice.{pick_yes, pick_no, told}
+use Rattle.words.proofs.Choice.{pick_yes, pick_no, told}
 use Rattle.rules.specs.Admission.{decide_place}
 use Rattle.rules.specs.Engines.{decide_eq}
 use borrow.Author.Rules.{rules}

@@ -1,6 +1,6 @@
 -- `deciding_joined::decide_joined` meets its contract.
 use mathlib.Core.Path.{refl}
-use Rattle.words.specs.Choice.{pick_yes, pick_no, told}
+use Rattle.words.proofs.Choice.{pick_yes, pick_no, told}
 use Rattle.rules.specs.Engines.{decide_joined}
 use Rattle.deciding_joined.specs.Named.{cq_stored, cq_told}
 use borrow.Author.Rules.{rules}

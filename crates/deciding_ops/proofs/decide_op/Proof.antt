@@ -1,6 +1,6 @@
 -- `deciding_ops::decide_op` meets its contract.
 use mathlib.Core.Path.{refl, ◌∙◌, ap}
-use Rattle.words.specs.Choice.{pick_yes, pick_no, told}
+use Rattle.words.proofs.Choice.{pick_yes, pick_no, told}
 use Rattle.rules.specs.Commands.{decide_found, decide_op}
 use Rattle.deciding_ops.specs.Ready.{command_stored}
 use borrow.Author.Rules.{rules}

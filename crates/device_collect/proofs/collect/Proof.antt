@@ -1,8 +1,8 @@
 -- `device_collect::collect` meets its contract.
-use Rattle.words.specs.Choice.{cases}
+use Rattle.words.proofs.Choice.{cases}
 use Rattle.rules.specs.World.{bad_state}
 use Rattle.rules.specs.Collections.{collect_of}
-use Rattle.lengths.specs.Lengths.{lent_told}
+use Rattle.lengths.proofs.Lengths.{lent_told}
 use Rattle.device_collect.specs.Collections.{collect_refused_lem, looked_up, collect_goes}
 use borrow.Author.Rules.{rules}
 use Rattle.device_collect.proofs.collect.Statement.{statement}

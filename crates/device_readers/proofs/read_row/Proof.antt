@@ -1,5 +1,5 @@
 -- `device_readers::read_row` meets its contract.
-use Rattle.device_bytes.specs.Walks.{none_slots, more_slots, skip_slots}
+use Rattle.device_bytes.proofs.Walks.{none_slots, more_slots, skip_slots}
 use Rattle.device_readers.specs.Reading.{row_broken, row_read}
 use Rattle.device_bytes.specs.Decoding.{slots_of}
 use borrow.Author.Rules.{rules}

@@ -1,5 +1,5 @@
 -- `device_scans::may_hold` meets its contract.
-use Rattle.words.specs.Choice.{cases}
+use Rattle.words.proofs.Choice.{cases}
 use Rattle.device_scans.specs.Passed.{may_hold, may_indexed, may_joined}
 use borrow.Author.Rules.{rules}
 use Rattle.device_scans.proofs.may_hold.Statement.{statement}

@@ -1,5 +1,5 @@
 -- `device_scans::slot_holds` meets its contract.
-use Rattle.request_table.specs.Listed.{one_told}
+use Rattle.request_table.proofs.Listed.{one_told}
 use Rattle.holds.specs.Holds.{clash_records}
 use borrow.Author.Rules.{rules}
 use Rattle.device_scans.proofs.slot_holds.Statement.{statement}

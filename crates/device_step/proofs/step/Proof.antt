@@ -1,8 +1,8 @@
 -- `device_step::step` meets its contract.
-use Rattle.words.specs.Choice.{cases}
+use Rattle.words.proofs.Choice.{cases}
 use Rattle.rules.specs.World.{bad_state}
 use Rattle.rules.specs.Steps.{step_of}
-use Rattle.lengths.specs.Lengths.{lent_told}
+use Rattle.lengths.proofs.Lengths.{lent_told}
 use Rattle.moving.specs.Steps.{step_goes}
 use Rattle.device_step.specs.Steps.{step_refused_lem, looked_up}
 use borrow.Author.Rules.{rules}

@@ -1,5 +1,5 @@
 -- `device_tests::refusal` meets its contract.
-use Rattle.device_calls.specs.Tests.{first_sized, first_lengths, first_impossible, first_passed}
+use Rattle.device_calls.proofs.Tests.{first_sized, first_lengths, first_impossible, first_passed}
 use borrow.Author.Rules.{rules}
 use Rattle.device_tests.proofs.refusal.Statement.{statement}
 use Rattle.device_tests.proofs.refusal.Tie as tie

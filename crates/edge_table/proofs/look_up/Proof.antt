@@ -1,6 +1,6 @@
 -- `edge_table::look_up` meets its contract.
 use borrow.Author.Rules.{rules}
-use Rattle.edge_table.specs.Reading.{found_entry}
+use Rattle.edge_table.proofs.Reading.{found_entry}
 use Rattle.edge_table.proofs.look_up.Statement.{statement}
 use Rattle.edge_table.proofs.look_up.Tie as tie
 

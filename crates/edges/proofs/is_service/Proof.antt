@@ -1,5 +1,5 @@
 -- `edges::is_service` meets its contract.
-use Rattle.words.specs.Choice.{cases}
+use Rattle.words.proofs.Choice.{cases}
 use borrow.Author.Tests.{not-true, not-false}
 use Rattle.edges.specs.States.{is_service}
 use Rattle.edges.proofs.is_service.Statement.{statement}

@@ -1,5 +1,5 @@
 -- `edges::judge` meets its contract.
-use Rattle.words.specs.Choice.{cases}
+use Rattle.words.proofs.Choice.{cases}
 use borrow.Author.Tests.{not-true, not-false}
 use Rattle.edges.specs.Edges.{judge_of}
 use borrow.Author.Rules.{rules}

@@ -2,7 +2,7 @@
 use borrow.Author.Rules.{rules}
 use mathlib.Core.Path.{refl}
 use Rattle.edges.specs.Edges.{permits_edge, is_active, write_keeps, write_fails, is_sending, write_stops, permits_write}
-use Rattle.edges.specs.Lines.{line, last_line}
+use Rattle.edges.proofs.Lines.{line, last_line}
 use Rattle.edges.proofs.leads.Statement.{statement}
 use Rattle.edges.proofs.leads.Tie as tie
 

@@ -1,5 +1,5 @@
 -- `edges::permitted_for_some` meets its contract.
-use Rattle.words.specs.Choice.{cases}
+use Rattle.words.proofs.Choice.{cases}
 use borrow.Author.Rules.{rules}
 use Rattle.edges.specs.Edges.{permits_some}
 use Rattle.edges.proofs.permitted_for_some.Statement.{statement}

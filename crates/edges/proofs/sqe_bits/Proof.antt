@@ -1,5 +1,5 @@
 -- `edges::sqe_bits` meets its contract.
-use Rattle.words.specs.Choice.{cases}
+use Rattle.words.proofs.Choice.{cases}
 use Rattle.edges.proofs.sqe_bits.Statement.{statement}
 use Rattle.edges.proofs.sqe_bits.Tie as tie
 

@@ -1,6 +1,6 @@
 -- `engines::engine_write` meets its contract.
 use borrow.Author.Tests.{not-true, not-false}
-use Rattle.words.specs.Choice.{cases}
+use Rattle.words.proofs.Choice.{cases}
 use borrow.Author.Rules.{rules}
 use Rattle.engines.proofs.engine_write.Statement.{statement}
 use Rattle.engines.proofs.engine_write.Tie as tie

@@ -1,6 +1,6 @@
 -- `engines::read_engine` meets its contract.
 use Rattle.engines.specs.Engines.{read_engine}
-use Rattle.engines.specs.Reading.{engine_answer_lem}
+use Rattle.engines.proofs.Reading.{engine_answer_lem}
 use borrow.Author.Rules.{rules}
 use Rattle.engines.proofs.read_engine.Statement.{statement}
 use Rattle.engines.proofs.read_engine.Tie as tie

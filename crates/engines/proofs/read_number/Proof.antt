@@ -1,7 +1,7 @@
 -- `engines::read_number` meets its contract.
 use Rattle.engines.specs.Engines.{read_number}
-use Rattle.engines.specs.Reading.{number_answer}
-use Rattle.words.specs.Choice.{cases}
+use Rattle.engines.proofs.Reading.{number_answer}
+use Rattle.words.proofs.Choice.{cases}
 use Rattle.engines.proofs.read_number.Statement.{statement}
 use Rattle.engines.proofs.read_number.Tie as tie
 

@@ -1,7 +1,7 @@
 -- `engines::read_state` meets its contract.
 use Rattle.engines.specs.Engines.{state_from}
 use borrow.Author.Rules.{rules}
-use Rattle.engines.specs.Reading.{no_state}
+use Rattle.engines.proofs.Reading.{no_state}
 use Rattle.engines.proofs.read_state.Statement.{statement}
 use Rattle.engines.proofs.read_state.Tie as tie
 

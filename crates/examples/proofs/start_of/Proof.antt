@@ -2,7 +2,7 @@
 use mathlib.Core.Bool.{true}
 use borrow.Author.Rules.{rules}
 use borrow.Author.Tests.{not-false}
-use Rattle.words.specs.Choice.{told, both_left}
+use Rattle.words.proofs.Choice.{told, both_left}
 use Rattle.context.specs.Layout.{fits_store}
 use Rattle.examples.proofs.start_of.Statement.{statement}
 use Rattle.examples.proofs.start_of.Tie as tie

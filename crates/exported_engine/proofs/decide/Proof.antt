@@ -1,6 +1,6 @@
 -- `exported_engine::decide` meets its contract.
 use mathlib.Core.Path.{refl, ◌∙◌, ap}
-use Rattle.words.specs.Choice.{pick_yes, pick_no}
+use Rattle.words.proofs.Choice.{pick_yes, pick_no}
 use Rattle.rules.specs.Engines.{decide_asked, decide_number}
 use Rattle.exported_engine.specs.Asked.{found_ready}
 use borrow.Author.Rules.{rules}

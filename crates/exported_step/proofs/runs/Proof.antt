@@ -1,5 +1,5 @@
 -- `exported_step::runs` meets its contract.
-use Rattle.words.specs.Choice.{cases}
+use Rattle.words.proofs.Choice.{cases}
 use Rattle.exported_step.specs.Whole.{runs}
 use borrow.Author.Rules.{rules}
 use Rattle.exported_step.proofs.runs.Statement.{statement}

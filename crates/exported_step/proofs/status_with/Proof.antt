@@ -1,5 +1,5 @@
 -- `exported_step::status_with` meets its contract.
-use Rattle.words.specs.Choice.{cases}
+use Rattle.words.proofs.Choice.{cases}
 use Rattle.exported_step.proofs.status_with.Statement.{statement}
 use Rattle.exported_step.proofs.status_with.Tie as tie
 

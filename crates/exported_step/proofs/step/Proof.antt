@@ -1,6 +1,6 @@
 -- `exported_step::step` meets its contract.
 use native.Mathlib.Omega.{arith}
-use Rattle.device_calls.specs.Tests.{passed_sized}
+use Rattle.device_calls.proofs.Tests.{passed_sized}
 use Rattle.exported_step.specs.Ready.{ready, left_refused, left_past, left_stepped}
 use borrow.Author.Rules.{rules}
 use Rattle.exported_step.proofs.step.Statement.{statement}

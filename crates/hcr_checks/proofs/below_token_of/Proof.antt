@@ -1,5 +1,5 @@
 -- `hcr_checks::below_token_of` meets its contract.
-use Rattle.hcr.specs.Fields.{masked_low}
+use Rattle.hcr.proofs.Fields.{masked_low}
 use Rattle.hcr_checks.proofs.below_token_of.Statement.{statement}
 use Rattle.hcr_checks.proofs.below_token_of.Tie as tie
 

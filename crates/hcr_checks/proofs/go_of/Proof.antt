@@ -1,5 +1,5 @@
 -- `hcr_checks::go_of` meets its contract.
-use Rattle.hcr.specs.Fields.{masked}
+use Rattle.hcr.proofs.Fields.{masked}
 use Rattle.hcr_checks.proofs.go_of.Statement.{statement}
 use Rattle.hcr_checks.proofs.go_of.Tie as tie
 

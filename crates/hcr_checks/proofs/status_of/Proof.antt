@@ -1,5 +1,5 @@
 -- `hcr_checks::status_of` meets its contract.
-use Rattle.hcr.specs.Fields.{masked}
+use Rattle.hcr.proofs.Fields.{masked}
 use Rattle.hcr_checks.proofs.status_of.Statement.{statement}
 use Rattle.hcr_checks.proofs.status_of.Tie as tie
 

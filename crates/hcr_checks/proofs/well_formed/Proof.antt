@@ -1,7 +1,7 @@
 -- `hcr_checks::well_formed` meets its contract.
-use Rattle.hcr.specs.Fields.{told_formed, told_below}
+use Rattle.hcr.proofs.Fields.{told_formed, told_below}
 use borrow.Author.Tests.{not-true, not-false}
-use Rattle.words.specs.Choice.{cases}
+use Rattle.words.proofs.Choice.{cases}
 use Rattle.hcr.specs.Register.{well_formed}
 use borrow.Author.Rules.{rules}
 use Rattle.hcr_checks.proofs.well_formed.Statement.{statement}

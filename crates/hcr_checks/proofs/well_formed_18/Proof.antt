@@ -1,7 +1,7 @@
 -- `hcr_checks::well_formed_18` meets its contract.
-use Rattle.words.specs.Choice.{cases}
+use Rattle.words.proofs.Choice.{cases}
 use Rattle.hcr.specs.Register.{well_formed18}
-use Rattle.hcr.specs.Fields.{told_is, told_not, told_test}
+use Rattle.hcr.proofs.Fields.{told_is, told_not, told_test}
 use borrow.Author.Rules.{rules}
 use Rattle.hcr_checks.proofs.well_formed_18.Statement.{statement}
 use Rattle.hcr_checks.proofs.well_formed_18.Tie as tie

@@ -1,5 +1,5 @@
 -- `hcr_reader::event_of` meets its contract.
-use Rattle.hcr.specs.Fields.{masked}
+use Rattle.hcr.proofs.Fields.{masked}
 use Rattle.hcr_reader.proofs.event_of.Statement.{statement}
 use Rattle.hcr_reader.proofs.event_of.Tie as tie
 

@@ -1,6 +1,6 @@
 -- `hcr_reader::join_param` meets its contract.
 use borrow.Author.Rules.{rules}
-use Rattle.hcr.specs.Fields.{joins}
+use Rattle.hcr.proofs.Fields.{joins}
 use Rattle.hcr_reader.proofs.join_param.Statement.{statement}
 use Rattle.hcr_reader.proofs.join_param.Tie as tie
 

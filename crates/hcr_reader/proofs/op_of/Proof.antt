@@ -1,7 +1,7 @@
 -- `hcr_reader::op_of` meets its contract.
 use native.Mathlib.Omega.{arith}
 use lib.Bits.{mask_lt}
-use Rattle.hcr.specs.Fields.{masked_low}
+use Rattle.hcr.proofs.Fields.{masked_low}
 use Rattle.hcr_reader.proofs.op_of.Statement.{statement}
 use Rattle.hcr_reader.proofs.op_of.Tie as tie
 

@@ -1,6 +1,6 @@
 -- `hcr_reader::read` meets its contract.
 use borrow.Author.Tests.{not-true, not-false}
-use Rattle.words.specs.Choice.{cases}
+use Rattle.words.proofs.Choice.{cases}
 use Rattle.hcr.specs.Register.{read_of, read_rows}
 use borrow.Author.Rules.{rules}
 use Rattle.hcr_reader.proofs.read.Statement.{statement}

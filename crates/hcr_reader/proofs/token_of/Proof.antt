@@ -2,7 +2,7 @@
 use Prim.Native.Nat.{◌/◌}
 use native.Mathlib.Omega.{arith}
 use lib.Bits.{mask_lt}
-use Rattle.hcr.specs.Fields.{masked}
+use Rattle.hcr.proofs.Fields.{masked}
 use Rattle.hcr_reader.proofs.token_of.Statement.{statement}
 use Rattle.hcr_reader.proofs.token_of.Tie as tie
 

@@ -1,5 +1,5 @@
 -- `hcr_writer::join_18` meets its contract.
-use Rattle.hcr.specs.Fields.{joined18}
+use Rattle.hcr.proofs.Fields.{joined18}
 use borrow.Author.Rules.{rules}
 use Rattle.hcr_writer.proofs.join_18.Statement.{statement}
 use Rattle.hcr_writer.proofs.join_18.Tie as tie

@@ -1,5 +1,5 @@
 -- `hcr_writer::write` meets its contract.
-use Rattle.hcr.specs.Writing.{answers_short, answers_bad_op, answers_done}
+use Rattle.hcr.proofs.Writing.{answers_short, answers_bad_op, answers_done}
 use borrow.Author.Rules.{rules}
 use Rattle.hcr_writer.proofs.write.Statement.{statement}
 use Rattle.hcr_writer.proofs.write.Tie as tie

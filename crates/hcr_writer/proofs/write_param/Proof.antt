@@ -1,5 +1,5 @@
 -- `hcr_writer::write_param` meets its contract.
-use Rattle.hcr.specs.Writing.{two_words}
+use Rattle.hcr.proofs.Writing.{two_words}
 use borrow.Author.Rules.{rules}
 use Rattle.hcr_writer.proofs.write_param.Statement.{statement}
 use Rattle.hcr_writer.proofs.write_param.Tie as tie

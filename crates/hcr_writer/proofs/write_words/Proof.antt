@@ -1,5 +1,5 @@
 -- `hcr_writer::write_words` meets its contract: `seven_words` takes what each call ensures, the last one first.
-use Rattle.hcr.specs.Writing.{seven_words}
+use Rattle.hcr.proofs.Writing.{seven_words}
 use borrow.Author.Rules.{rules}
 use Rattle.hcr_writer.proofs.write_words.Statement.{statement}
 use Rattle.hcr_writer.proofs.write_words.Tie as tie

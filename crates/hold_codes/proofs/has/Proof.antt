@@ -1,5 +1,5 @@
 -- `hold_codes::has` meets its contract.
-use Rattle.words.specs.Choice.{cases}
+use Rattle.words.proofs.Choice.{cases}
 use Rattle.hold_codes.proofs.has.Statement.{statement}
 use Rattle.hold_codes.proofs.has.Tie as tie
 

@@ -1,6 +1,6 @@
 -- `hold_scans::held` meets its contract.
 use borrow.Author.Rules.{rules}
-use Rattle.holds.specs.Clashes.{held_told}
+use Rattle.holds.proofs.Clashes.{held_told}
 use Rattle.hold_scans.proofs.held.Statement.{statement}
 use Rattle.hold_scans.proofs.held.Tie as tie
 

@@ -15,8 +15,8 @@ use Rattle.context.specs.declared.Record.{Record}
 use Rattle.slots.specs.declared.Status.TheVariants.{Free, Running, Finished}
 use Rattle.slots.specs.declared.Status.{Status}
 use Rattle.request_table.specs.Records.{list_of}
-use Rattle.holds.specs.Clashes.{records_more, records_found, records_none, below_count, running_is}
-use Rattle.rows.specs.Scans.{any_more, any_found, any_none}
+use Rattle.holds.proofs.Clashes.{records_more, records_found, records_none, below_count, running_is}
+use Rattle.rows.proofs.Scans.{any_more, any_found, any_none}
 use Rattle.holds.specs.Holds.{clash_records, clash_status, clash_slot}
 use Rattle.slots.specs.Slots.{slot}
 use Rattle.rows.specs.Rows.{any_slot}

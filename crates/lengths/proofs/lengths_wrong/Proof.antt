@@ -1,5 +1,5 @@
 use borrow.Author.Tests.{not-true, not-false}
-use Rattle.words.specs.Choice.{cases}
+use Rattle.words.proofs.Choice.{cases}
 use Rattle.lengths.specs.Lengths.{lengths_wrong}
 use Rattle.lengths.proofs.lengths_wrong.Statement.{statement}
 use Rattle.lengths.proofs.lengths_wrong.Tie as tie

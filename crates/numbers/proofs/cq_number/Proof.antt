@@ -1,5 +1,5 @@
 -- `numbers::cq_number` meets its contract.
-use Rattle.words.specs.Choice.{cases}
+use Rattle.words.proofs.Choice.{cases}
 use borrow.Author.Rules.{rules}
 use Rattle.numbers.proofs.cq_number.Statement.{statement}
 use Rattle.numbers.proofs.cq_number.Tie as tie

@@ -1,6 +1,6 @@
 -- `op_checks::is_busy` meets its contract.
 use borrow.Author.Tests.{not-true, not-false}
-use Rattle.words.specs.Choice.{cases}
+use Rattle.words.proofs.Choice.{cases}
 use Rattle.rules.specs.Commands.{busy}
 use borrow.Author.Rules.{rules}
 use Rattle.op_checks.proofs.is_busy.Statement.{statement}

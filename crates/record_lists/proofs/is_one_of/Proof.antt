@@ -1,5 +1,5 @@
 -- `record_lists::is_one_of` meets its contract.
-use Rattle.request_table.specs.Listed.{one_told}
+use Rattle.request_table.proofs.Listed.{one_told}
 use borrow.Author.Rules.{rules}
 use Rattle.record_lists.proofs.is_one_of.Statement.{statement}
 use Rattle.record_lists.proofs.is_one_of.Tie as tie

@@ -1,5 +1,5 @@
 -- `record_lists::nth` meets its contract.
-use Rattle.request_table.specs.Listed.{nth_first}
+use Rattle.request_table.proofs.Listed.{nth_first}
 use borrow.Author.Rules.{rules}
 use Rattle.record_lists.proofs.nth.Statement.{statement}
 use Rattle.record_lists.proofs.nth.Tie as tie

@@ -1,5 +1,5 @@
 -- `record_lists::nth_of_three` meets its contract.
-use Rattle.request_table.specs.Listed.{third_of}
+use Rattle.request_table.proofs.Listed.{third_of}
 use Rattle.record_lists.proofs.nth_of_three.Statement.{statement}
 use Rattle.record_lists.proofs.nth_of_three.Tie as tie
 

@@ -1,6 +1,6 @@
 -- `record_lists::one_of_three` meets its contract.
-use Rattle.words.specs.Choice.{cases, told}
-use Rattle.request_table.specs.Listed.{one_told}
+use Rattle.words.proofs.Choice.{cases, told}
+use Rattle.request_table.proofs.Listed.{one_told}
 use borrow.Author.Rules.{rules}
 use Rattle.record_lists.proofs.one_of_three.Statement.{statement}
 use Rattle.record_lists.proofs.one_of_three.Tie as tie

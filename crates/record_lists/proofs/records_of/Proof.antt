@@ -1,6 +1,6 @@
 -- `record_lists::records_of` meets its contract.
 use borrow.Author.Rules.{rules}
-use Rattle.request_table.specs.Listed.{command_holds}
+use Rattle.request_table.proofs.Listed.{command_holds}
 use Rattle.record_lists.proofs.records_of.Statement.{statement}
 use Rattle.record_lists.proofs.records_of.Tie as tie
 

@@ -3,7 +3,7 @@ use mathlib.Core.Path.{◌∙◌}
 use native.Mathlib.Nat.{add-sub_cancel_left}
 use native.Mathlib.Omega.{arith}
 use Rattle.context.specs.Layout.{bytes_of}
-use Rattle.context.specs.Records.{record_small, record_inside}
+use Rattle.context.proofs.Records.{record_small, record_inside}
 use Rattle.records.specs.Memory.{record_in}
 use Rattle.words.specs.Parts.{part}
 use borrow.Author.Rules.{rules}

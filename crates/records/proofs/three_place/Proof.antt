@@ -1,6 +1,6 @@
 -- `records::three_place` meets its contract.
 use native.Mathlib.Omega.{arith}
-use Rattle.context.specs.Records.{record_small}
+use Rattle.context.proofs.Records.{record_small}
 use Rattle.records.specs.Calls.{qp_place, cq_place, eq_place}
 use borrow.Author.Rules.{rules}
 use Rattle.records.proofs.three_place.Statement.{statement}

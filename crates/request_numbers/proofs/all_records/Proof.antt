@@ -1,5 +1,5 @@
 -- `request_numbers::all_records` meets its contract.
-use Rattle.request_table.specs.Listed.{all_told}
+use Rattle.request_table.proofs.Listed.{all_told}
 use borrow.Author.Rules.{rules}
 use Rattle.request_numbers.proofs.all_records.Statement.{statement}
 use Rattle.request_numbers.proofs.all_records.Tie as tie

@@ -1,5 +1,5 @@
 -- `request_numbers::numbers_hold` meets its contract.
-use Rattle.request_table.specs.Listed.{numbers_fail, numbers_told}
+use Rattle.request_table.proofs.Listed.{numbers_fail, numbers_told}
 use borrow.Author.Tests.{not-true, not-false}
 use borrow.Author.Rules.{rules}
 use Rattle.request_numbers.proofs.numbers_hold.Statement.{statement}

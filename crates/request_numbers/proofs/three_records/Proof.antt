@@ -1,7 +1,7 @@
 -- `request_numbers::three_records` meets its contract.
 use borrow.Author.Tests.{not-true, not-false}
-use Rattle.words.specs.Choice.{told}
-use Rattle.request_table.specs.Listed.{all_told}
+use Rattle.words.proofs.Choice.{told}
+use Rattle.request_table.proofs.Listed.{all_told}
 use borrow.Author.Rules.{rules}
 use Rattle.request_numbers.proofs.three_records.Statement.{statement}
 use Rattle.request_numbers.proofs.three_records.Tie as tie

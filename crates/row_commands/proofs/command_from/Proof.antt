@@ -3,8 +3,8 @@ use mathlib.Core.Path.{◌≡◌}
 use Prim.Native.Nat.{◌≤◌, ◌-◌}
 use borrow.Author.Rules.{rules}
 use lib.ListN.{drop}
-use Rattle.words.specs.Choice.{told}
-use Rattle.rows.specs.Scans.{any_more, any_found, any_none}
+use Rattle.words.proofs.Choice.{told}
+use Rattle.rows.proofs.Scans.{any_more, any_found, any_none}
 use Rattle.slots.specs.Slots.{has_command}
 use Rattle.rows.specs.Rows.{any_slot}
 use Rattle.row_commands.proofs.command_from.Statement.{statement}

@@ -3,8 +3,8 @@ use mathlib.Core.Path.{◌≡◌}
 use Prim.Native.Nat.{◌≤◌, ◌-◌}
 use borrow.Author.Rules.{rules}
 use lib.ListN.{drop}
-use Rattle.words.specs.Choice.{told}
-use Rattle.rows.specs.Scans.{free_more, free_found, free_none}
+use Rattle.words.proofs.Choice.{told}
+use Rattle.rows.proofs.Scans.{free_more, free_found, free_none}
 use Rattle.rows.specs.Rows.{lowest_free}
 use Rattle.row_scans.proofs.lowest_free.Statement.{statement}
 use Rattle.row_scans.proofs.lowest_free.Tie as tie

@@ -1,6 +1,6 @@
 -- `row_slots::put` meets its contract.
 use borrow.Author.Rules.{rules}
-use Rattle.rows.specs.Laws.{put_beyond}
+use Rattle.rows.proofs.Laws.{put_beyond}
 use Rattle.row_slots.proofs.put.Statement.{statement}
 use Rattle.row_slots.proofs.put.Tie as tie
 

@@ -1,6 +1,6 @@
 -- `row_slots::slot_at` meets its contract.
 use borrow.Author.Rules.{rules}
-use Rattle.rows.specs.Laws.{slot_beyond}
+use Rattle.rows.proofs.Laws.{slot_beyond}
 use Rattle.row_slots.proofs.slot_at.Statement.{statement}
 use Rattle.row_slots.proofs.slot_at.Tie as tie
 

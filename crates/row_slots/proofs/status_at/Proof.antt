@@ -1,6 +1,6 @@
 -- `row_slots::status_at` meets its contract.
 use borrow.Author.Rules.{rules}
-use Rattle.rows.specs.Laws.{status_beyond}
+use Rattle.rows.proofs.Laws.{status_beyond}
 use Rattle.row_slots.proofs.status_at.Statement.{statement}
 use Rattle.row_slots.proofs.status_at.Tie as tie
 

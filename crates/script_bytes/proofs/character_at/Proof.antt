@@ -1,6 +1,6 @@
 -- `script_bytes::character_at` meets its contract.
 use borrow.Author.Rules.{rules}
-use Rattle.words.specs.Choice.{cases}
+use Rattle.words.proofs.Choice.{cases}
 use borrow.Author.Rules.{rules}
 use Rattle.script_bytes.proofs.character_at.Statement.{statement}
 use Rattle.script_bytes.proofs.character_at.Tie as tie

@@ -1,7 +1,7 @@
 -- `script_bytes::count` meets its contract.
 use borrow.Author.Rules.{rules}
 use borrow.Author.Tests.{not-true, not-false}
-use Rattle.words.specs.Choice.{cases}
+use Rattle.words.proofs.Choice.{cases}
 use Rattle.script_bytes.specs.Bytes.{count_of}
 use borrow.Author.Rules.{rules}
 use Rattle.script_bytes.proofs.count.Statement.{statement}

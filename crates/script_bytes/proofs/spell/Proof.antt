@@ -3,7 +3,8 @@ use borrow.Author.Rules.{rules}
 use mathlib.Core.Path.{◌≡◌}
 use Prim.Native.Nat.{◌≤◌, ◌-◌}
 use lib.ListN.{length}
-use Rattle.words.specs.Maps.{map_first, none_map_first, done_map_first}
+use Rattle.words.specs.Maps.{map_first}
+use Rattle.words.proofs.Maps.{none_map_first, done_map_first}
 use Rattle.script_bytes.specs.Turns.{step_first}
 use Rattle.script_bytes.specs.Bytes.{text_of}
 use Rattle.script_bytes.proofs.spell.Statement.{statement}

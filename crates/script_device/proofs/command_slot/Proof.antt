@@ -1,7 +1,7 @@
 -- `script_device::command_slot` meets its contract.
 use borrow.Author.Rules.{rules}
 use borrow.Author.Tests.{not-true, not-false}
-use Rattle.words.specs.Choice.{cases}
+use Rattle.words.proofs.Choice.{cases}
 use Rattle.script_device.specs.Slots.{command_slot}
 use Rattle.script_device.specs.Laws.{command_placed}
 use borrow.Author.Rules.{rules}

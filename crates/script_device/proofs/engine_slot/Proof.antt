@@ -1,7 +1,7 @@
 -- `script_device::engine_slot` meets its contract.
 use borrow.Author.Rules.{rules}
 use borrow.Author.Tests.{not-true, not-false}
-use Rattle.words.specs.Choice.{cases}
+use Rattle.words.proofs.Choice.{cases}
 use Rattle.script_device.specs.Slots.{engine_slot}
 use Rattle.script_device.specs.Laws.{request_read}
 use Rattle.script_device.proofs.engine_slot.Statement.{statement}

@@ -1,7 +1,7 @@
 -- `script_device::free_slot` meets its contract.
 use borrow.Author.Rules.{rules}
 use mathlib.Core.Path.{refl}
-use Rattle.words.specs.Choice.{pick_yes, pick_no}
+use Rattle.words.proofs.Choice.{pick_yes, pick_no}
 use Rattle.script_device.specs.Laws.{count_is, count_other}
 use borrow.Author.Rules.{rules}
 use Rattle.script_device.proofs.free_slot.Statement.{statement}

@@ -1,6 +1,6 @@
 -- `script_device::placed` meets its contract.
 use borrow.Author.Rules.{rules}
-use Rattle.words.specs.Choice.{cases}
+use Rattle.words.proofs.Choice.{cases}
 use Rattle.script_device.specs.Slots.{placed_as}
 use borrow.Author.Rules.{rules}
 use Rattle.script_device.proofs.placed.Statement.{statement}

@@ -1,7 +1,7 @@
 -- `script_device::read_slot` meets its contract.
 use borrow.Author.Rules.{rules}
 use mathlib.Core.Path.{refl}
-use Rattle.words.specs.Choice.{pick_yes, pick_no}
+use Rattle.words.proofs.Choice.{pick_yes, pick_no}
 use Rattle.script_device.specs.Slots.{command_slot, engine_slot, slot_in}
 use Rattle.script_device.specs.Laws.{word_told, slot_read}
 use borrow.Author.Rules.{rules}

@@ -1,7 +1,7 @@
 -- `script_keywords::device_word` meets its contract.
 use borrow.Author.Rules.{rules}
 use mathlib.Core.Path.{refl}
-use Rattle.words.specs.Choice.{told, pick_yes, pick_no}
+use Rattle.words.proofs.Choice.{told, pick_yes, pick_no}
 use Rattle.script_keywords.specs.Keywords.{device_of}
 use borrow.Author.Rules.{rules}
 use Rattle.script_keywords.proofs.device_word.Statement.{statement}

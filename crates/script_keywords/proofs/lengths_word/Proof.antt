@@ -1,7 +1,7 @@
 -- `script_keywords::lengths_word` meets its contract.
 use borrow.Author.Rules.{rules}
 use mathlib.Core.Path.{refl}
-use Rattle.words.specs.Choice.{told, pick_yes, pick_no}
+use Rattle.words.proofs.Choice.{told, pick_yes, pick_no}
 use Rattle.script_keywords.specs.Keywords.{lengths_of}
 use borrow.Author.Rules.{rules}
 use Rattle.script_keywords.proofs.lengths_word.Statement.{statement}

@@ -1,6 +1,6 @@
 -- `script_numbers::digit` meets its contract.
 use borrow.Author.Rules.{rules}
-use Rattle.words.specs.Choice.{cases}
+use Rattle.words.proofs.Choice.{cases}
 use borrow.Author.Rules.{rules}
 use Rattle.script_numbers.proofs.digit.Statement.{statement}
 use Rattle.script_numbers.proofs.digit.Tie as tie

@@ -1,6 +1,6 @@
 -- `script_numbers::is_hexadecimal` meets its contract.
 use borrow.Author.Rules.{rules}
-use Rattle.words.specs.Choice.{cases}
+use Rattle.words.proofs.Choice.{cases}
 use Rattle.script_numbers.specs.Numbers.{is_hexadecimal}
 use borrow.Author.Rules.{rules}
 use Rattle.script_numbers.proofs.is_hexadecimal.Statement.{statement}

@@ -1,6 +1,6 @@
 -- `script_states::logs_of` meets its contract.
 use borrow.Author.Rules.{rules}
-use Rattle.words.specs.Choice.{cases}
+use Rattle.words.proofs.Choice.{cases}
 use borrow.Author.Rules.{rules}
 use Rattle.script_states.proofs.logs_of.Statement.{statement}
 use Rattle.script_states.proofs.logs_of.Tie as tie

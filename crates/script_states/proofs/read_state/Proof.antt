@@ -1,7 +1,7 @@
 -- `script_states::read_state` meets its contract.
 use borrow.Author.Rules.{rules}
 use borrow.Author.Tests.{not-true, not-false}
-use Rattle.words.specs.Choice.{cases}
+use Rattle.words.proofs.Choice.{cases}
 use Rattle.script_states.specs.States.{state_in}
 use Rattle.script_states.specs.Laws.{logs_read, state_read}
 use borrow.Author.Rules.{rules}

@@ -4,7 +4,7 @@ use mathlib.Core.Path.{◌≡◌}
 use Prim.Native.Nat.{◌+◌, ◌≤◌, ◌-◌}
 use lib.ListN.{length, drop}
 use Rattle.script_words.specs.Words.{same_word}
-use Rattle.script_words.specs.Turns.{same_other, same_more, same_end, same_lengths}
+use Rattle.script_words.proofs.Turns.{same_other, same_more, same_end, same_lengths}
 use Rattle.script_words.proofs.same.Statement.{statement}
 use Rattle.script_words.proofs.same.Tie as tie
 

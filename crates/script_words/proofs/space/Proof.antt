@@ -1,6 +1,6 @@
 -- `script_words::space` meets its contract.
 use borrow.Author.Rules.{rules}
-use Rattle.words.specs.Choice.{cases}
+use Rattle.words.proofs.Choice.{cases}
 use Rattle.script_words.proofs.space.Statement.{statement}
 use Rattle.script_words.proofs.space.Tie as tie
 

@@ -1,6 +1,6 @@
 -- `script_words::word` meets its contract.
 use borrow.Author.Rules.{rules}
-use Rattle.script_words.specs.Turns.{word_cut}
+use Rattle.script_words.proofs.Turns.{word_cut}
 use Rattle.script_words.proofs.word.Statement.{statement}
 use Rattle.script_words.proofs.word.Tie as tie
 

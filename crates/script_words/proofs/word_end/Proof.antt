@@ -4,7 +4,7 @@ use mathlib.Core.Path.{◌≡◌}
 use Prim.Native.Nat.{◌+◌, ◌≤◌, ◌-◌}
 use lib.ListN.{length, drop}
 use Rattle.script_words.specs.Words.{first_length}
-use Rattle.script_words.specs.Turns.{first_found, first_more, first_end}
+use Rattle.script_words.proofs.Turns.{first_found, first_more, first_end}
 use Rattle.script_words.proofs.word_end.Statement.{statement}
 use Rattle.script_words.proofs.word_end.Tie as tie
 

@@ -4,7 +4,7 @@ use mathlib.Core.Path.{◌≡◌}
 use Prim.Native.Nat.{◌+◌, ◌≤◌, ◌-◌}
 use lib.ListN.{length, drop}
 use Rattle.script_words.specs.Words.{behind}
-use Rattle.script_words.specs.Turns.{behind_found, behind_more, behind_end}
+use Rattle.script_words.proofs.Turns.{behind_found, behind_more, behind_end}
 use Rattle.script_words.proofs.word_start.Statement.{statement}
 use Rattle.script_words.proofs.word_start.Tie as tie
 use Rattle.script_words.proofs.space.Reads as space-reads

@@ -4,7 +4,7 @@ use mathlib.Core.Path.{◌≡◌}
 use Prim.Native.Nat.{◌+◌, ◌≤◌, ◌-◌}
 use lib.ListN.{length, drop}
 use Rattle.script_words.specs.Words.{spaces}
-use Rattle.script_words.specs.Turns.{spaces_more, spaces_end}
+use Rattle.script_words.proofs.Turns.{spaces_more, spaces_end}
 use Rattle.script_words.proofs.words.Statement.{statement}
 use Rattle.script_words.proofs.words.Tie as tie
 use Rattle.script_words.proofs.space.Reads as space-reads

@@ -1,6 +1,6 @@
 -- `slot_checks::slot_wrong` meets its contract.
 use borrow.Author.Rules.{rules}
-use Rattle.words.specs.Choice.{cases}
+use Rattle.words.proofs.Choice.{cases}
 use Rattle.slot_checks.proofs.slot_wrong.Statement.{statement}
 use Rattle.slot_checks.proofs.slot_wrong.Tie as tie
 

@@ -4,7 +4,7 @@ use mathlib.Core.Bool.{Bool}
 use borrow.Author.Tests.{not-true, not-false}
 use borrow.Author.Rules.{rules}
 use Rattle.words.specs.Choice.{either}
-use Rattle.holds.specs.Clashes.{pair_apart, pair_met}
+use Rattle.holds.proofs.Clashes.{pair_apart, pair_met}
 use Rattle.slot_clashes.proofs.clashes.Statement.{statement}
 use Rattle.slot_clashes.proofs.clashes.Tie as tie
 

@@ -5,7 +5,7 @@ use borrow.Author.Rules.{rules}
 use lib.ListN.{drop}
 use Rattle.request_table.specs.Records.{list_of}
 use Rattle.holds.specs.Holds.{clash_records}
-use Rattle.holds.specs.Clashes.{records_more, records_found, records_none, below_count, clash_told}
+use Rattle.holds.proofs.Clashes.{records_more, records_found, records_none, below_count, clash_told}
 use Rattle.slot_clashes.proofs.requests_clash.Statement.{statement}
 use Rattle.slot_clashes.proofs.requests_clash.Tie as tie
 

@@ -1,6 +1,6 @@
 -- `slot_judging::by_status` meets its contract.
 use Rattle.slot_judging.specs.Judging.{judged_by}
-use Rattle.words.specs.Choice.{cases}
+use Rattle.words.proofs.Choice.{cases}
 use borrow.Author.Rules.{rules}
 use Rattle.slot_judging.proofs.by_status.Statement.{statement}
 use Rattle.slot_judging.proofs.by_status.Tie as tie

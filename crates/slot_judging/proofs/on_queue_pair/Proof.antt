@@ -1,5 +1,5 @@
 -- `slot_judging::on_queue_pair` meets its contract.
-use Rattle.words.specs.Choice.{cases}
+use Rattle.words.proofs.Choice.{cases}
 use borrow.Author.Tests.{not-true, not-false}
 use borrow.Author.Rules.{rules}
 use Rattle.slot_judging.proofs.on_queue_pair.Statement.{statement}

@@ -1,7 +1,7 @@
 -- `slot_judging::on_record` meets its contract.
 use Rattle.slot_judging.specs.Judging.{record_judged}
 use Rattle.slot_judging.specs.Requests.{one_told}
-use Rattle.words.specs.Choice.{cases}
+use Rattle.words.proofs.Choice.{cases}
 use borrow.Author.Tests.{not-true, not-false}
 use borrow.Author.Rules.{rules}
 use Rattle.slot_judging.proofs.on_record.Statement.{statement}

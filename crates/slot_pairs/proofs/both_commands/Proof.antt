@@ -1,7 +1,7 @@
 -- `slot_pairs::both_commands` meets its contract.
 use borrow.Author.Tests.{not-true, not-false}
 use borrow.Author.Rules.{rules}
-use Rattle.words.specs.Choice.{cases}
+use Rattle.words.proofs.Choice.{cases}
 use Rattle.slot_pairs.proofs.both_commands.Statement.{statement}
 use Rattle.slot_pairs.proofs.both_commands.Tie as tie
 

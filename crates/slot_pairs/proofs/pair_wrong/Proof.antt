@@ -1,6 +1,6 @@
 -- `slot_pairs::pair_wrong` meets its contract.
 use borrow.Author.Rules.{rules}
-use Rattle.words.specs.Choice.{cases}
+use Rattle.words.proofs.Choice.{cases}
 use Rattle.slot_pairs.proofs.pair_wrong.Statement.{statement}
 use Rattle.slot_pairs.proofs.pair_wrong.Tie as tie
 

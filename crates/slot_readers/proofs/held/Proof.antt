@@ -1,5 +1,5 @@
 -- `slot_readers::held` meets its contract.
-use Rattle.words.specs.Choice.{cases}
+use Rattle.words.proofs.Choice.{cases}
 use Rattle.slot_readers.specs.Reading.{held_as}
 use borrow.Author.Rules.{rules}
 use Rattle.slot_readers.proofs.held.Statement.{statement}

@@ -1,5 +1,5 @@
 -- `slot_readers::read_request` meets its contract.
-use Rattle.words.specs.Choice.{cases}
+use Rattle.words.proofs.Choice.{cases}
 use Rattle.device_bytes.specs.Decoding.{request_in}
 use Rattle.slot_readers.specs.Reading.{request_command, request_engine}
 use borrow.Author.Rules.{rules}

@@ -1,5 +1,5 @@
 -- `slot_readers::read_status` meets its contract.
-use Rattle.words.specs.Choice.{cases}
+use Rattle.words.proofs.Choice.{cases}
 use Rattle.device_bytes.specs.Decoding.{status_of}
 use Rattle.slot_readers.specs.Reading.{status_request}
 use borrow.Author.Rules.{rules}

@@ -1,5 +1,5 @@
 -- `slot_requests::code_of` meets its contract.
-use Rattle.words.specs.Choice.{cases}
+use Rattle.words.proofs.Choice.{cases}
 use borrow.Author.Rules.{rules}
 use Rattle.slot_requests.proofs.code_of.Statement.{statement}
 use Rattle.slot_requests.proofs.code_of.Tie as tie

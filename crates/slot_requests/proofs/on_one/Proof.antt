@@ -4,7 +4,7 @@ use borrow.Author.Tests.{le-ltb}
 use Rattle.requests.specs.declared.EngineRequest.{EngineRequest}
 use Rattle.requests.specs.declared.Request.TheVariants as request
 use Rattle.slot_requests.specs.declared.RequestFound.TheVariants.{Request}
-use Rattle.words.specs.Choice.{cases, pick_no}
+use Rattle.words.proofs.Choice.{cases, pick_no}
 use borrow.Author.Rules.{rules}
 use Rattle.slot_requests.proofs.on_one_lem.Statement.{statement}
 use Rattle.slot_requests.proofs.on_one_lem.Tie as tie

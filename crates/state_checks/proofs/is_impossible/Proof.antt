@@ -1,7 +1,7 @@
 -- `state_checks::is_impossible` meets its contract.
 use borrow.Author.Tests.{not-true, not-false}
 use borrow.Author.Rules.{rules}
-use Rattle.words.specs.Choice.{cases}
+use Rattle.words.proofs.Choice.{cases}
 use Rattle.possible.specs.Possible.{impossible}
 use Rattle.state_checks.proofs.is_impossible.Statement.{statement}
 use Rattle.state_checks.proofs.is_impossible.Tie as tie

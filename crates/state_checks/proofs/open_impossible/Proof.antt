@@ -6,12 +6,12 @@ use Prim.Native.Nat.{◌≤◌, ◌-◌}
 use borrow.Author.Tests.{not-true, not-false}
 use borrow.Author.Rules.{rules}
 use lib.ListN.{length, drop}
-use Rattle.words.specs.Choice.{told}
-use Rattle.rows.specs.Every.{at}
+use Rattle.words.proofs.Choice.{told}
+use Rattle.rows.proofs.Every.{at}
 use Rattle.rows.specs.Rows.{any_slot, any_rest}
-use Rattle.rows.specs.Scans.{any_more, any_found, any_none, rest_more, rest_found, rest_none}
+use Rattle.rows.proofs.Scans.{any_more, any_found, any_none, rest_more, rest_found, rest_none}
 use Rattle.possible.specs.Possible.{pair_wrong, wrong_with}
-use Rattle.possible.specs.Turns.{wrong_not, wrong_slot, wrong_pair, wrong_free, past_told, nest_told}
+use Rattle.possible.proofs.Turns.{wrong_not, wrong_slot, wrong_pair, wrong_free, past_told, nest_told}
 use Rattle.state_checks.proofs.open_impossible.Statement.{statement}
 use Rattle.state_checks.proofs.open_impossible.Tie as tie
 

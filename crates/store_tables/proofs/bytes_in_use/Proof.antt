@@ -1,6 +1,6 @@
 -- `store_tables::bytes_in_use` meets its contract.
 use native.Mathlib.Omega.{arith}
-use Rattle.context.specs.Counts.{ranges, start_small}
+use Rattle.context.proofs.Counts.{ranges, start_small}
 use Rattle.context.specs.declared.Kind.TheVariants as kind
 use borrow.Author.Rules.{rules}
 use Rattle.store_tables.proofs.bytes_in_use.Statement.{statement}

@@ -3,7 +3,7 @@ use native.Mathlib.Omega.{arith}
 use mathlib.Core.Path.{refl}
 use Prim.Native.Nat.{◌<◌, ◌≤◌, ◌^◌}
 use lib.Pow.{pow_mono}
-use Rattle.context.specs.Counts.{one_shifted}
+use Rattle.context.proofs.Counts.{one_shifted}
 use borrow.Author.Rules.{rules}
 use Rattle.store_tables.proofs.count.Statement.{statement}
 use Rattle.store_tables.proofs.count.Tie as tie

@@ -1,5 +1,5 @@
 -- `store_tables::fits_store` meets its contract.
-use Rattle.words.specs.Choice.{cases}
+use Rattle.words.proofs.Choice.{cases}
 use borrow.Author.Tests.{not-true, not-false}
 use Rattle.context.specs.Layout.{fits_store}
 use borrow.Author.Rules.{rules}

@@ -1,5 +1,5 @@
 -- `store_tables::ranges_hold` meets its contract.
-use Rattle.words.specs.Choice.{cases}
+use Rattle.words.proofs.Choice.{cases}
 use Rattle.context.specs.Layout.{ranges_hold}
 use Rattle.store_tables.proofs.ranges_hold.Statement.{statement}
 use Rattle.store_tables.proofs.ranges_hold.Tie as tie

@@ -1,5 +1,5 @@
 -- `store_tables::read_init` meets its contract.
-use Rattle.words.specs.Choice.{cases}
+use Rattle.words.proofs.Choice.{cases}
 use Rattle.context.specs.Init.{init_rows, init_of, logs_of}
 use borrow.Author.Rules.{rules}
 use Rattle.store_tables.proofs.read_init.Statement.{statement}

@@ -1,6 +1,6 @@
 -- `store_tables::record_at` meets its contract: `starts` says what the sum is, and that no part of it wraps.
 use native.Mathlib.Omega.{arith}
-use Rattle.context.specs.Records.{Starts, starts}
+use Rattle.context.proofs.Records.{Starts, starts}
 use borrow.Author.Rules.{rules}
 use Rattle.store_tables.proofs.record_at.Statement.{statement}
 use Rattle.store_tables.proofs.record_at.Tie as tie

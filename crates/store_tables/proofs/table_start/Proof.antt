@@ -1,6 +1,6 @@
 -- `store_tables::table_start` meets its contract.
 use native.Mathlib.Omega.{arith}
-use Rattle.context.specs.Counts.{ranges}
+use Rattle.context.proofs.Counts.{ranges}
 use borrow.Author.Rules.{rules}
 use Rattle.store_tables.proofs.table_start.Statement.{statement}
 use Rattle.store_tables.proofs.table_start.Tie as tie

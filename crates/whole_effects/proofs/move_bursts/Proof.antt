@@ -4,7 +4,7 @@ use Rattle.std.proofs.Common.{◌≡◌, ℕ, ◌+◌, ◌-◌, ◌<◌, ◌≤�
 use Rattle.requests.specs.declared.Request.{Request}
 use Rattle.burst_table.specs.Sizes.{burst_size, slot_room, room_size}
 use Rattle.burst_table.specs.Bursts.{total_of, offset_of}
-use Rattle.burst_table.specs.Laws.{offset_room, need_small}
+use Rattle.burst_table.proofs.Laws.{offset_room, need_small}
 use Rattle.whole_effects.proofs.move_bursts.Statement.{statement}
 use Rattle.whole_effects.proofs.move_bursts.Tie as tie
 

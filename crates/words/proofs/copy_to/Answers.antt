@@ -1,6 +1,6 @@
 use Rattle.std.proofs.Common.{refl}
 use Rattle.std.proofs.Math.Nat.{add-sub_cancel_left}
-use Rattle.words.specs.Parts.{lent_splice}
+use Rattle.words.proofs.Parts.{lent_splice}
 use Rattle.words.proofs.copy_to.Goals as goal
 
 pub returns : goal.returns

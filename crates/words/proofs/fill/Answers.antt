@@ -1,5 +1,5 @@
 use borrow.Author.Rules.{rules}
-use Rattle.words.specs.Leaves.{lent_fill}
+use Rattle.words.proofs.Leaves.{lent_fill}
 use Rattle.words.proofs.fill.Goals as goal
 
 pub returns : goal.returns

@@ -1,4 +1,4 @@
-use Rattle.words.specs.Leaves.{fill_again, fill_done}
+use Rattle.words.proofs.Leaves.{fill_again, fill_done}
 use borrow.Author.Rules.{rules}
 use Rattle.words.proofs.fill_all.Goals as goal
 

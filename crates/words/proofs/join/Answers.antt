@@ -1,4 +1,4 @@
-use Rattle.words.specs.Leaves.{le_four}
+use Rattle.words.proofs.Leaves.{le_four}
 use borrow.Author.Rules.{rules}
 use Rattle.words.proofs.join.Goals as goal
 

@@ -1,5 +1,5 @@
 use borrow.Author.Rules.{rules}
-use Rattle.words.specs.Leaves.{splice_four}
+use Rattle.words.proofs.Leaves.{splice_four}
 use Rattle.words.proofs.write_four.Goals as goal
 
 pub returns : goal.returns

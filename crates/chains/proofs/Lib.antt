@@ -1,0 +1,3 @@
+-- The laws about the definitions of specs/, and the theorems.
+pub mod Theorems
+pub mod Proofs

@@ -1,0 +1,2 @@
+-- The laws about the definitions of specs/, and the theorems.
+pub mod Reading
