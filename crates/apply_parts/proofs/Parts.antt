@@ -7,7 +7,7 @@ use Rattle.mailboxes.specs.Mailboxes.{need_of}
 use Rattle.burst_table.specs.Sizes.{slot_start}
 use Rattle.burst_table.proofs.Laws.{need_small}
 use Rattle.bursts.specs.Room.{room_filled}
-use Rattle.apply_parts.specs.Parts.{Taking, below, enough, roomed}
+use Rattle.apply_parts.specs.Parts.{Taking}
 
 -- ---- the mailbox bytes of a request that takes a slot
 

@@ -16,7 +16,7 @@ use Rattle.edges.specs.declared.EdgeVerdict.TheVariants.{Permitted, NotPermitted
 use Rattle.edge_table.specs.declared.Entry.{Entry}
 use Rattle.edge_table.specs.declared.Entry.TheVariants.{Always, UnlessRc, Never}
 use Rattle.edge_table.specs.Table.{Line, line, table, entry_in, entry_of, allows, verdict_by}
-use Rattle.edge_table.specs.Exact.{Exact, code_right, codes, codes_small, moves, permitted, tabled, verdicts}
+use Rattle.edge_table.specs.Exact.{Exact, code_right, codes_small, tabled}
 
 tested : every_below 16 code_right ≡ true
 unfolding permits_edge is_active write_keeps write_fails is_sending write_stops permits_write

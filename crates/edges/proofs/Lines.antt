@@ -6,7 +6,7 @@ use Rattle.edges.proofs.Every.{none_permitted, all_agree}
 use Rattle.edges.specs.declared.State.TheVariants.{Reset, Init, Rtr, Rts, Sqe, Sqd, Err}
 use Rattle.edges.specs.declared.Move.{Move}
 use Rattle.edges.specs.declared.Move.TheVariants.{Command, Engine}
-use Rattle.edges.specs.Lines.{Leads, LineRight, exactly, has}
+use Rattle.edges.specs.Lines.{Leads, LineRight, has}
 
 has_as_uc : (set : ℕ) (asked : Move) (service : ℕ) → eqb service rc ≡ false → has set asked service ≡ has set asked uc
 has_as_uc set (Command edge) service e = refl

@@ -63,7 +63,7 @@ use Rattle.rules.specs.Calls.{register_asked, command_asked, engine_found_asked,
 use Rattle.rules.proofs.Laws.Found.{Reads, wrong, init as initReads, close, nop, on_record, command_reads, Alone, Valid, engine_valid}
 use Rattle.rules.specs.Laws.Named.{no_cq, no_eq, trail_of}
 use Rattle.rules.proofs.Laws.Named.{alone_fits}
-use Rattle.rules.specs.Laws.Decided.{Asking, Decided, Judging, Missing, Passing, all, asking, closes, content, cqs_of, denied, enough, eqs_of, free, lent, misnamed, missed, named, opened, opens, passing, plain, possible, qps_of, rests, takes, valid}
+use Rattle.rules.specs.Laws.Decided.{Asking, Decided, Judging, Missing, Passing, closes, cqs_of, denied, eqs_of, misnamed, opens, plain, qps_of, rests, takes}
 
 -- ---- a request on a record
 

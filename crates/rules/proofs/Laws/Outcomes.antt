@@ -18,7 +18,7 @@ use Rattle.rules.specs.Steps.{Stepped, stepped, step_refused, slot_moved, world_
 use Rattle.rules.specs.Collections.{Collected, collected, collect_refused, answer_at, world_freed, collect_finished, collect_on, collect_of}
 use Rattle.rules.specs.Resets.{Reset, resetted, world_reset, reset_of}
 use Rattle.rules.proofs.Laws.Lent.{closed_free}
-use Rattle.rules.specs.Laws.Outcomes.{Collecting, Stepping, enough, lent, moves, now, opened, possible}
+use Rattle.rules.specs.Laws.Outcomes.{Collecting, Stepping}
 
 -- a running request is one of an open adapter
 pub running_open : (w : World) → bad_state w ≡ false → (k : ℕ) (q : Request) (m : ℕ) → status_at k w.row ≡ Running m q
