@@ -27,6 +27,7 @@ either_second true q e = refl
 either_second false q e = e
 
 pub in_one_of : (X : Record) (Xs : List Record) → In X Xs → one_of Xs X ≡ true
+in_one_of X [] x' = elim x' [ ]
 in_one_of X (Y ∷ Ys) (inl e) = rw (record_same Y X e)
 in_one_of X (Y ∷ Ys) (inr h) = either_second (same_record Y X) (one_of Ys X) (in_one_of X Ys h)
 
@@ -40,6 +41,7 @@ one_of_in X (Y ∷ Ys) e = go (same_record Y X) refl (one_of_in X Ys)
 
 -- all of some records are the store's: so each is
 pub all_in : (g : Logs) (X : Record) (Xs : List Record) → all_records g Xs ≡ true → In X Xs → is_record g X ≡ true
+all_in g X [] e x'' = elim x'' [ ]
 all_in g X (Y ∷ Ys) e (inl f) = rw (← f) (both_left (is_record g Y) (all_records g Ys) e)
 all_in g X (Y ∷ Ys) e (inr h) = all_in g X Ys (both_right (is_record g Y) (all_records g Ys) e) h
 
@@ -71,6 +73,7 @@ share_symmetric (X ∷ Xs) Ys = share_more X Xs Ys ∙ ap (either (one_of Ys X))
 
 -- a record that is in both
 pub in_both : (X : Record) (Xs Ys : List Record) → In X Xs → In X Ys → share Ys Xs ≡ true
+in_both X [] Ys x'' h = elim x'' [ ]
 in_both X (Z ∷ Zs) Ys (inl e) h = rw (e, in_one_of X Ys h)
 in_both X (Z ∷ Zs) Ys (inr k) h = either_second (one_of Ys Z) (share Ys Zs) (in_both X Zs Ys k h)
 
