@@ -1,0 +1,35 @@
+use Rattle.engines.specs.Engines.{state_from}
+use Rattle.engines.proofs.Reading.{no_state}
+use borrow.Author.Rules.{rules}
+use Rattle.engines.proofs.read_state.Goals as goal
+
+pub returns-in-0 : goal.returns-in-0
+unfolding state_from
+returns-in-0 c = rw c.in-0.is
+
+pub returns-in-1 : goal.returns-in-1
+unfolding state_from
+returns-in-1 c = rw c.in-1.is
+
+pub returns-in-2 : goal.returns-in-2
+unfolding state_from
+returns-in-2 c = rw c.in-2.is
+
+pub returns-in-3 : goal.returns-in-3
+unfolding state_from
+returns-in-3 c = rw c.in-3.is
+
+pub returns-in-4 : goal.returns-in-4
+unfolding state_from
+returns-in-4 c = rw c.in-4.is
+
+pub returns-in-5 : goal.returns-in-5
+unfolding state_from
+returns-in-5 c = rw c.in-5.is
+
+pub returns-in-6 : goal.returns-in-6
+unfolding state_from
+returns-in-6 c = rw c.in-6.is
+
+pub returns-in_default : goal.returns-in_default
+returns-in_default c = search (rules, no_state) depth 12

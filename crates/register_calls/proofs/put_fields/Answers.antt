@@ -1,0 +1,16 @@
+use Rattle.register_calls.specs.Made.{fields_put}
+use borrow.Author.Rules.{rules}
+use Rattle.register_calls.proofs.put_fields.Goals as goal
+
+pub returns : goal.returns
+returns c =
+    fields_put _ _ _ _ _ _ _ _ _ _
+    c.fill.ensures
+    c.write_two.ensures
+    c.event_byte.ensures
+    c.write_le16-2.ensures
+    c.write_le16.ensures
+    c.write_le32.ensures
+    c.write_le64-2.ensures
+    c.write_le64.ensures
+    (search rules)
