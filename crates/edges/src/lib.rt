@@ -43,7 +43,7 @@ pub enum Move {
 }
 
 // Whether a move is permitted. An engine write that is not may be permitted for another service type.
-#[derive(Drop)]
+#[derive(Clone, Copy)]
 pub enum EdgeVerdict {
     Permitted,
     NotPermitted,
