@@ -1,5 +1,4 @@
 -- The laws about the definitions of specs/, and the theorems.
-pub mod Burst
 pub mod Submit
 pub mod Items
 pub mod Next

@@ -48,6 +48,34 @@ abbrev pub Mid : Req → Left → (Side → ℕ × ℕ) → (Side → ℕ × ℕ
 Mid (fill m n) p s w = rest p m n (w left) ≡ rest two m n (s left)
 Mid peek p s w = Unit {0}
 
+-- what a system has to keep to
+pub writes_dec : (r : Req) (X : Side) → Dec (Writes r X)
+writes_dec (fill m n) left = yes tt
+writes_dec (fill m n) right = no (λ z. z)
+writes_dec peek X = no (λ z. z)
+
+pub writes_in : (r : Req) (X : Side) → Writes r X → Sees r X
+writes_in (fill m n) X y = y
+writes_in peek X y = tt
+
+pub num_kept : (r : Req) (s t : Side → ℕ × ℕ) → ((X : Side) → Sees r X → s X ≡ t X) → num r s ≡ num r t
+num_kept (fill m n) s t h = ap (λ (c : ℕ × ℕ). c.0) (h left tt)
+num_kept peek s t h = refl
+
+pub ans_kept : (r : Req) (s t : Side → ℕ × ℕ) → ((X : Side) → Sees r X → s X ≡ t X) → ans r s ≡ ans r t
+ans_kept (fill m n) s t h = refl
+ans_kept peek s t h = ap₂ (λ (c d : ℕ × ℕ). c ∷ d ∷ []) (h left tt) (h right tt)
+
+pub eff_kept : (r : Req) (s t : Side → ℕ × ℕ) → ((X : Side) → Sees r X → s X ≡ t X) → (X : Side) → Writes r X → eff r s X ≡ eff r t X
+eff_kept (fill m n) s t h left y = ap (λ (c : ℕ × ℕ). (m, c.1 + n)) (h left tt)
+eff_kept (fill m n) s t h right y = absurd y
+eff_kept peek s t h X y = absurd y
+
+pub eff_stays : (r : Req) (s : Side → ℕ × ℕ) (X : Side) → (Writes r X → ⊥) → eff r s X ≡ s X
+eff_stays (fill m n) s left y = absurd (y tt)
+eff_stays (fill m n) s right y = refl
+eff_stays peek s X y = refl
+
 abbrev pub system : Sys
 system = record {
   Rec = Side;
@@ -61,19 +89,16 @@ system = record {
   Sees = Sees;
   Holds = Sees;
   Writes = Writes;
-  writes? = λ r X. elim r [ fill m n ↦ elim X [ left ↦ yes tt | right ↦ no (λ z. z) ] | peek ↦ no (λ z. z) ];
-  writes_holds = λ r X. elim r [ fill m n ↦ λ y. y | peek ↦ λ y. tt ];
+  writes? = writes_dec;
+  writes_holds = writes_in;
   holds_sees = λ r X y. y;
   num = num;
   ans = ans;
   eff = eff;
-  num_local = λ r s t. elim r [ fill m n ↦ λ h. ap (λ c. c.0) (h left tt) | peek ↦ λ h. refl ];
-  ans_local = λ r s t. elim r [ fill m n ↦ λ h. refl | peek ↦ λ h. ap₂ (λ c d. c ∷ d ∷ []) (h left tt) (h right tt) ];
-  eff_local = λ r s t. elim r [
-    | fill m n ↦ λ h X. elim X [ left ↦ λ y. ap (λ c. (m, c.1 + n)) (h left tt) | right ↦ λ y. absurd y ]
-    | peek ↦ λ h X y. absurd y
-  ];
-  eff_frame = λ r s X. elim r [ fill m n ↦ elim X [ left ↦ λ y. absurd (y tt) | right ↦ λ y. refl ] | peek ↦ λ y. refl ];
+  num_local = num_kept;
+  ans_local = ans_kept;
+  eff_local = eff_kept;
+  eff_frame = eff_stays;
   Also = λ p q. Unit {0};
   Mid = Mid;
   mid_local = λ r p s t w u. elim r [
