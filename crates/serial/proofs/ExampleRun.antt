@@ -39,6 +39,15 @@ right_kept : (c d : ℕ × ℕ) (m n : ℕ) (X : Side) → ¬ Writes (fill m n) 
 right_kept c d m n left y = absurd (y tt)
 right_kept c d m n right y = refl
 
+all_free : (j : ℕ) → only free j ≡ free
+all_free zero = refl
+all_free (suc i) = refl
+
+-- the one record that the writer writes
+left_is : (m n : ℕ) (s t : Side → ℕ × ℕ) → s left ≡ t left → (X : Side) → Writes (fill m n) X → s X ≡ t X
+left_is m n s t e left y = e
+left_is m n s t e right y = absurd y
+
 abbrev journal : List (Item system)
 journal = gone (fill 2 3) [] ∷ gone peek ((2, 8) ∷ (9, 9) ∷ []) ∷ off (fill 1 1) 2 ∷ []
 
@@ -47,13 +56,13 @@ pub run : Moves system (world (0, 5) free) shut (world (2, 8) free)
     (kept (both (0, 5)) journal)
 unfolding ℕ_discrete
 run =
-    then {u = world (0, 5) free} (fresh (λ j. elim j [ zero ↦ refl | suc i ↦ refl ]))
+    then {u = world (0, 5) free} (fresh all_free)
     (then {u = world (0, 5) (runs (fill 2 3) two)} (event (take {k = 0} two (λ X. refl) refl refl (beside _ _)
     (idle_slot (0, 5) free (λ b. b) (fill 2 3)) refl refl))
     (then {u = world (2, 5) (runs (fill 2 3) one)} (event (step (fill 2 3) 0 two one refl refl (beside _ _) (right_kept _ _ 2 3)
     (λ t e. e)))
     (then {u = world (2, 8) (ended (fill 2 3) [])} (event (last (fill 2 3) 0 one [] refl refl (beside _ _) (right_kept _ _ 2 3)
-    (λ t e. (refl, λ X. elim X [ left ↦ λ y. e | right ↦ λ y. absurd y ]))))
+    (λ t e. (refl, left_is 2 3 _ _ e))))
     (then {u = world (2, 8) (ended (fill 2 3) [])} (event (once (λ X. refl) (λ j. refl)
     (idle_slot (2, 8) (ended (fill 2 3) []) (λ b. b) peek) refl refl))
     (then {u = world (2, 8) (ended (fill 2 3) [])} (event (turn {r = fill 1 1} (record { looks = λ X. refl; slots = λ j. refl })

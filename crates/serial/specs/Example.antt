@@ -76,6 +76,11 @@ eff_stays (fill m n) s left y = absurd (y tt)
 eff_stays (fill m n) s right y = refl
 eff_stays peek s X y = refl
 
+pub mid_kept : (r : Req) (p : Left) (s t w u : Side → ℕ × ℕ) → ((X : Side) → Sees r X → s X ≡ t X) → ((X : Side) → Sees r X → w X ≡ u X)
+    → Mid r p s w → Mid r p t u
+mid_kept (fill m n) p s t w u h k e = ap (rest p m n) (sym (k left tt)) ∙ e ∙ ap (rest two m n) (h left tt)
+mid_kept peek p s t w u h k e = tt
+
 abbrev pub system : Sys
 system = record {
   Rec = Side;
@@ -101,8 +106,5 @@ system = record {
   eff_frame = eff_stays;
   Also = λ p q. Unit {0};
   Mid = Mid;
-  mid_local = λ r p s t w u. elim r [
-    | fill m n ↦ λ h k e. ap (rest p m n) (sym (k left tt)) ∙ e ∙ ap (rest two m n) (h left tt)
-    | peek ↦ λ h k e. tt
-  ];
+  mid_local = mid_kept;
 }
