@@ -198,6 +198,7 @@ module _ (w : World) (p : Passing w) (o : w.hca.«open» ≡ true) (n : QpNumber
     }
       where
         free : (X : Record) → In X (trail_of n (no_eq c)) → read_held w.row X ≡ false
+        free X (inr (inr x'')) = elim x'' [ ]
         free X (inl e) = rw (← e) h
         free X (inr (inl e)) = rw (← e) hc
 
@@ -215,6 +216,7 @@ module _ (w : World) (p : Passing w) (o : w.hca.«open» ≡ true) (n : QpNumber
   cq_missing l = record { passing = p; opened = o; all = both_yes _ _ v refl; free = free; missed = ap not l }
     where
       free : (X : Record) → In X (trail_of n no_cq) → read_held w.row X ≡ false
+      free X (inr x') = elim x' [ ]
       free X (inl e) = rw (← e) h
 
   cq_decided : Joined (decide_cq w n (cq_of w.hca.logs (cq_named (bytes (rec.Qp n)))))
