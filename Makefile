@@ -16,11 +16,11 @@ demo: kit
 	@tools/demo
 
 replay: kit
-	@set -o pipefail; rt check replay | grep --line-buffered '^rt: '
+	@tools/build replay
 	@echo 'target/bin/replay is proved and built. On a script of your own: target/bin/replay < my.script (README.md has the format)'
 
 edges: kit
-	@set -o pipefail; rt check print_edge_table | grep --line-buffered '^rt: '
+	@tools/build print_edge_table
 	@target/bin/print_edge_table
 
 test: kit
@@ -57,10 +57,10 @@ waves: kit
 waves-check: kit
 	@tools/waves-check
 
-# Proved and built only where it is missing: after a change, `rt staticlib ecgslope` brings it up to date.
+# Proved and built only where it is missing: after a change, `tools/build library` brings it up to date.
 target/staticlib/libecgslope.a:
 	@$(MAKE) -s kit
-	@rt staticlib ecgslope
+	@tools/build library
 
 target/bin/replay:
 	@$(MAKE) -s replay

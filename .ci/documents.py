@@ -2,8 +2,8 @@
 leaves out, a name that a document gives and the file it gives it for does not have in public, a public function with a
 `requires` that docs/DECISIONS.md does not list in 41, or a table of edges in README.md that is not the printed one.
 
-It is given as `crate/File: name, name`: File is `src` for the crate's src/*.rt, or else a module of its
-specs (`rules/Laws/Decided` is crates/rules/specs/Laws/Decided.antt)."""
+It is given as `crate/File: name, name`: File is `src` for the crate's src/*.rt, or else a module of its specs/ or proofs/ or of both
+(`rules/Laws/Decided` is crates/rules/specs/Laws/Decided.antt and crates/rules/proofs/Laws/Decided.antt)."""
 import glob
 import os
 import re
@@ -76,8 +76,8 @@ def public(where):
     if module == "src":
         paths = sorted(glob.glob(f"crates/{crate}/src/*.rt"))
         return set().union(*map(code_names, paths)) if paths else None
-    path = f"crates/{crate}/specs/{module}.antt"
-    return spec_names(path) if os.path.exists(path) else None
+    paths = [path for part in ("specs", "proofs") if os.path.exists(path := f"crates/{crate}/{part}/{module}.antt")]
+    return set().union(*map(spec_names, paths)) if paths else None
 
 
 def asking(path):
