@@ -1,3 +1,3 @@
 -- The laws about the definitions of specs/, and the theorems.
 pub mod Fields
-pub mod Permission
+pub mod PermissionLaws

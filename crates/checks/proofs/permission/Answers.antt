@@ -1,4 +1,4 @@
-use Rattle.checks.proofs.Permission.{permission_told}
+use Rattle.checks.proofs.PermissionLaws.{permission_told}
 use Rattle.checks.proofs.permission.Goals as goal
 
 pub returns-in-Command : goal.returns-in-Command

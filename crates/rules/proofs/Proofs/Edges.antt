@@ -29,7 +29,7 @@ use Rattle.burst_table.proofs.Touched.{fit_at}
 use Rattle.burst_table.proofs.Laws.{bursts_fit, bursts_later, total_bursts}
 use Rattle.checks.specs.Fields.{state_of, service_of}
 use Rattle.checks.specs.Permission.{permission_of}
-use Rattle.checks.proofs.Permission.{permission_holds}
+use Rattle.checks.proofs.PermissionLaws.{permission_holds}
 use Rattle.checks.specs.declared.Verdict.TheVariants.{Permitted}
 use Rattle.byte_rule.specs.Bytes.{byte_of}
 use Rattle.bursts.specs.Bursts.{burst}
