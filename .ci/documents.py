@@ -25,7 +25,7 @@ def listed():
     for line in open("crates.txt", encoding="utf8"):
         line = line.split("#")[0].strip()
         if ":" in line:
-            names.append(line.split(":")[0].strip())
+            names.append(line.split(":")[0].split()[0])
     return names
 
 
