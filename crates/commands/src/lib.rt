@@ -15,7 +15,7 @@ use numbers::{CqFound, EqFound, MptFound, QpFound};
 use requests::{Command, Owned};
 
 // The tables whose records have an owner.
-#[derive(Drop)]
+#[derive(Clone, Copy)]
 pub enum Table {
     Mpt,
     Eq,
@@ -23,7 +23,7 @@ pub enum Table {
 }
 
 // The ops that are served.
-#[derive(Drop)]
+#[derive(Clone, Copy)]
 pub enum Op {
     InitHca,
     CloseHca,

@@ -8,7 +8,7 @@ ghost use Rattle.edges.specs.Edges.{to_of, permits, permits_some, for_some_type,
 ghost use Rattle.edges.specs.Lines.{edge_bit, sqe_bits, write_bits, bits_of, Leads};
 
 // The states of a queue pair.
-#[derive(Drop)]
+#[derive(Clone, Copy)]
 pub enum State {
     Reset,
     Init,
@@ -20,7 +20,7 @@ pub enum State {
 }
 
 // The edges that a command asks for, in the order of document 01's table.
-#[derive(Drop)]
+#[derive(Clone, Copy)]
 pub enum Edge {
     ResetToInit,
     InitToInit,
@@ -36,7 +36,7 @@ pub enum Edge {
 }
 
 // What is asked of a queue pair: a command's edge, or an engine write that leaves this state.
-#[derive(Drop)]
+#[derive(Clone, Copy)]
 pub enum Move {
     Command(Edge),
     Engine(State),

@@ -2,7 +2,7 @@
 // and what reading and writing it give.
 #![tactic(auto)]
 
-#[derive(Drop)]
+#[derive(Clone, Copy)]
 pub struct HcrCommand {
     pub in_param: u64,
     pub in_modifier: u32,

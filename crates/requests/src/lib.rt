@@ -8,7 +8,7 @@ use context::{CqNumber, EqNumber, MptNumber, QpNumber};
 use edges::{Edge, State};
 
 // A record that software and hardware hand over to each other.
-#[derive(Drop)]
+#[derive(Clone, Copy)]
 pub enum Owned {
     Mpt(MptNumber),
     Eq(EqNumber),
@@ -16,7 +16,7 @@ pub enum Owned {
 }
 
 // The commands on a record, which use a slot.
-#[derive(Drop)]
+#[derive(Clone, Copy)]
 pub enum Command {
     Sw2Hw(Owned),
     Hw2Sw(Owned),
@@ -26,7 +26,7 @@ pub enum Command {
 }
 
 // Which packet sequence number (PSN) of a queue pair an engine write sets.
-#[derive(Drop)]
+#[derive(Clone, Copy)]
 pub enum PsnField {
     NextSend,
     LastAcked,
@@ -34,7 +34,7 @@ pub enum PsnField {
 }
 
 // An engine request as a slot holds it. Request 7 is asked for by its queue pair alone.
-#[derive(Drop)]
+#[derive(Clone, Copy)]
 pub enum EngineRequest {
     ReadState(QpNumber),
     ReadNext(QpNumber),
@@ -45,7 +45,7 @@ pub enum EngineRequest {
     ReadJoined(QpNumber, CqNumber, EqNumber),
 }
 
-#[derive(Drop)]
+#[derive(Clone, Copy)]
 pub enum Request {
     Command(Command),
     Engine(EngineRequest),

@@ -9,14 +9,14 @@ use requests::Request;
 
 // A slot is free, running with its request, or finished with its request; the number is that of the
 // bursts moved. The bytes of the request's mailbox and answer stay in the room.
-#[derive(Drop)]
+#[derive(Clone, Copy)]
 pub enum Status {
     Free,
     Running(u8, Request),
     Finished(u8, Request),
 }
 
-#[derive(Drop)]
+#[derive(Clone, Copy)]
 pub struct Slot {
     pub status: Status,
 }
