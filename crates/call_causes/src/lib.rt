@@ -7,7 +7,7 @@ ghost use Rattle.call_causes.specs.Causes.{submit_cause, step_cause, collect_cau
 use rules::{CollectAnswer, Refusal, ResetAnswer, StepAnswer, SubmitAnswer};
 
 // Why a call was refused, if it was.
-#[derive(Drop)]
+#[derive(Clone, Copy)]
 pub enum Cause {
     None,
     Refused(Refusal),

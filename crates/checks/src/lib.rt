@@ -16,7 +16,7 @@ use requests::{Command, EngineRequest, Request};
 
 // Why a record's state denies a request: the edge is not permitted, or not for the record's service
 // type, the owner is the wrong one, or the record names another that the store has not.
-#[derive(Drop)]
+#[derive(Clone, Copy)]
 pub enum Denial {
     Edge,
     ServiceType,

@@ -6,7 +6,7 @@ ghost use Rattle.hold_codes.specs.Codes.{no_hold, has_code};
 
 // The codes of the records that a running request holds, and of the one that it writes. The code of a
 // record is 4 * number + kind + 1, so that 0 stands for none.
-#[derive(Drop)]
+#[derive(Clone, Copy)]
 pub struct Hold {
     pub first: u64,
     pub second: u64,

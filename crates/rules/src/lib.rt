@@ -7,7 +7,7 @@ use context::Logs;
 use requests::Request;
 
 // Why a call is refused, in the order of document 01's table. Two causes may share a number.
-#[derive(Drop)]
+#[derive(Clone, Copy)]
 pub enum Refusal {
     // The row is not 8 long, the room is too short, the store's length is not the one that INIT_HCA
     // was lent, or the HCR is below 28 bytes.
@@ -58,7 +58,7 @@ pub enum Decision {
 }
 
 // A submission: a command done at once, a request accepted into a slot, or a refusal.
-#[derive(Drop)]
+#[derive(Clone, Copy)]
 pub enum SubmitAnswer {
     Done,
     Accepted(usize),
@@ -66,20 +66,20 @@ pub enum SubmitAnswer {
 }
 
 // A step: the bursts still to move.
-#[derive(Drop)]
+#[derive(Clone, Copy)]
 pub enum StepAnswer {
     Left(u8),
     Refused(Refusal),
 }
 
 // A collection: how many bytes of the buffer hold the answer.
-#[derive(Drop)]
+#[derive(Clone, Copy)]
 pub enum CollectAnswer {
     Collected(usize),
     Refused(Refusal),
 }
 
-#[derive(Drop)]
+#[derive(Clone, Copy)]
 pub enum ResetAnswer {
     Done,
     Refused(Refusal),
