@@ -11,7 +11,7 @@ use edges::{EdgeVerdict, Move};
 const RC: u8 = 0;
 
 // For which service types the table has a move.
-#[derive(Drop)]
+#[derive(Clone, Copy)]
 pub enum Entry {
     Always,
     UnlessRc,
