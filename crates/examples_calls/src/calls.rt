@@ -49,7 +49,7 @@ pub const EQ_2: u8 = 13;
 pub const CLOSED_STATE: u8 = 14;
 
 // One call. The fields have the types that the operations take.
-#[derive(Drop)]
+#[derive(Clone, Copy)]
 pub struct Call {
     pub what: u8,
     pub op: u16,
@@ -70,7 +70,7 @@ pub struct Call {
 // How many calls an example may have.
 pub const CALLS: usize = 64;
 
-#[derive(Drop)]
+#[derive(Clone, Copy)]
 pub struct Script {
     pub calls: [Call; 64],
     pub n: usize,
