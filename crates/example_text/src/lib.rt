@@ -2,35 +2,35 @@
 // 01 gives, and whether the two are the same.
 #![tactic(auto)]
 
-pub fn print_expected() {
-    io::write_all(1, b", expected ");
+use std::io;
+
+pub fn print_expected(rt: &impl Print) -> io::Result<()> {
+    rt.write_all(b", expected ")
 }
 
-pub fn print_end(same: bool) {
+pub fn print_end(rt: &impl Print, same: bool) -> io::Result<()> {
     if same {
-        io::write_all(1, b": ok\n");
-        return;
+        return rt.write_all(b": ok\n");
     }
-    io::write_all(1, b": WRONG\n");
+    rt.write_all(b": WRONG\n")
 }
 
 // A number returned, as document 01 writes it: `accepted` for 0, a digit, or 0x and hex digits.
-fn print_number(number: u64) {
+fn print_number(rt: &impl Print, number: u64) -> io::Result<()> {
     if number == 0 {
-        io::write_all(1, b"accepted");
-        return;
+        return rt.write_all(b"accepted");
     }
     if 9 < number {
-        io::write_all(1, b"0x");
+        rt.write_all(b"0x")?;
     }
-    io::print_hex(1, number, 1);
+    print!(rt; "{:x}", number)
 }
 
-pub fn check_number(label: &[u8], found: u64, given: u64) {
-    io::write_all(1, label);
-    io::write_all(1, b": ");
-    print_number(found);
-    print_expected();
-    print_number(given);
-    print_end(found == given);
+pub fn check_number(rt: &impl Print, label: &[u8], found: u64, given: u64) -> io::Result<()> {
+    rt.write_all(label)?;
+    rt.write_all(b": ")?;
+    print_number(rt, found)?;
+    print_expected(rt)?;
+    print_number(rt, given)?;
+    print_end(rt, found == given)
 }

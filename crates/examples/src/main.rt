@@ -11,6 +11,7 @@ use context::{CqNumber, InitFound, Logs, MptNumber, QpNumber, Record};
 use edges::{EdgeVerdict, Move, State};
 use example_text::{check_number, print_end, print_expected};
 use hcr::ReadAnswer;
+use std::io;
 
 // The bytes that the records with these logarithms take.
 const STORE: usize = 2688;
@@ -105,24 +106,23 @@ fn engine_write(from: u8, service: u8, to: State) -> u64 {
     verdict_number(edges::judge(Move::Engine(to), from, service))
 }
 
-fn print_fields(op: u16, op_modifier: u8) {
-    io::write_all(1, b"op 0x");
-    io::print_hex(1, op as u64, 1);
-    io::write_all(1, b", op_modifier ");
-    io::print_decimal(1, op_modifier as u64);
+fn print_fields(rt: &impl Print, op: u16, op_modifier: u8) -> io::Result<()> {
+    rt.write_all(b"op 0x")?;
+    print!(rt; "{:x}", op as u64)?;
+    rt.write_all(b", op_modifier ")?;
+    rt.print(op_modifier as u64)
 }
 
-fn check_start(label: &[u8], found: Start, given: u64) {
-    io::write_all(1, label);
+fn check_start(rt: &impl Print, label: &[u8], found: Start, given: u64) -> io::Result<()> {
+    rt.write_all(label)?;
     let Start::At(at) = found else {
-        io::write_all(1, b" is no record: WRONG\n");
-        return;
+        return rt.write_all(b" is no record: WRONG\n");
     };
-    io::write_all(1, b" starts at ");
-    io::print_decimal(1, at);
-    print_expected();
-    io::print_decimal(1, given);
-    print_end(at == given);
+    rt.write_all(b" starts at ")?;
+    rt.print(at)?;
+    print_expected(rt)?;
+    rt.print(given)?;
+    print_end(rt, at == given)
 }
 
 // Whether two pairs of op and op_modifier are the same.
@@ -133,68 +133,94 @@ fn same_fields(op: u16, op_modifier: u8, given_op: u16, given_modifier: u8) -> b
     op_modifier == given_modifier
 }
 
-fn check_fields(label: &[u8], found: ReadAnswer, op: u16, op_modifier: u8) {
-    io::write_all(1, label);
+fn check_fields(
+    rt: &impl Print,
+    label: &[u8],
+    found: ReadAnswer,
+    op: u16,
+    op_modifier: u8,
+) -> io::Result<()> {
+    rt.write_all(label)?;
     let ReadAnswer::Command(command) = found else {
-        io::write_all(1, b": no command: WRONG\n");
-        return;
+        return rt.write_all(b": no command: WRONG\n");
     };
-    io::write_all(1, b": ");
-    print_fields(command.op, command.op_modifier);
-    print_expected();
-    print_fields(op, op_modifier);
-    print_end(same_fields(command.op, command.op_modifier, op, op_modifier));
+    rt.write_all(b": ")?;
+    print_fields(rt, command.op, command.op_modifier)?;
+    print_expected(rt)?;
+    print_fields(rt, op, op_modifier)?;
+    print_end(
+        rt,
+        same_fields(command.op, command.op_modifier, op, op_modifier),
+    )
 }
 
-fn store_examples() {
-    check_number(b"P1 a store of 2688 bytes", init(2688), 0);
-    check_number(b"P2 a store of 2687 bytes", init(2687), 3);
-    check_start(b"P3 QP 5", start_of(Record::Qp(QpNumber(5))), 1280);
-    check_start(b"P4 CQ 3", start_of(Record::Cq(CqNumber(3))), 2240);
-    check_start(b"P5 MPT 3", start_of(Record::Mpt(MptNumber(3))), 2624);
+fn store_examples(rt: &impl Print) -> io::Result<()> {
+    check_number(rt, b"P1 a store of 2688 bytes", init(2688), 0)?;
+    check_number(rt, b"P2 a store of 2687 bytes", init(2687), 3)?;
+    check_start(rt, b"P3 QP 5", start_of(Record::Qp(QpNumber(5))), 1280)?;
+    check_start(rt, b"P4 CQ 3", start_of(Record::Cq(CqNumber(3))), 2240)?;
+    check_start(rt, b"P5 MPT 3", start_of(Record::Mpt(MptNumber(3))), 2624)
 }
 
-fn register_examples() {
-    check_fields(b"P6 word 18h 0x00800019", read_word(0x00800019), 0x19, 0);
-    check_fields(b"P7 word 18h 0x0080301e", read_word(0x0080301e), 0x1e, 3);
+fn register_examples(rt: &impl Print) -> io::Result<()> {
+    check_fields(
+        rt,
+        b"P6 word 18h 0x00800019",
+        read_word(0x00800019),
+        0x19,
+        0,
+    )?;
+    check_fields(
+        rt,
+        b"P7 word 18h 0x0080301e",
+        read_word(0x0080301e),
+        0x1e,
+        3,
+    )?;
     check_number(
+        rt,
         b"P8 word 18h 0x00900019",
         read_number(read_word(0x00900019)),
         3,
-    );
+    )
 }
 
 // P9 names no type, so it is run with each.
-fn engine_examples() {
+fn engine_examples(rt: &impl Print) -> io::Result<()> {
     check_number(
+        rt,
         b"P9 engine RTR to SQE, RC",
         engine_write(RTR, RC, State::Sqe),
         0x85,
-    );
+    )?;
     check_number(
+        rt,
         b"P9 engine RTR to SQE, UC",
         engine_write(RTR, UC, State::Sqe),
         0x85,
-    );
+    )?;
     check_number(
+        rt,
         b"P9 engine RTR to SQE, UD",
         engine_write(RTR, UD, State::Sqe),
         0x85,
-    );
+    )?;
     check_number(
+        rt,
         b"P10 engine RTS to SQE, UD",
         engine_write(RTS, UD, State::Sqe),
         0,
-    );
+    )?;
     check_number(
+        rt,
         b"P11 engine RTS to SQE, RC",
         engine_write(RTS, RC, State::Sqe),
         0x88,
-    );
+    )
 }
 
-fn main() {
-    store_examples();
-    register_examples();
-    engine_examples();
+fn main(rt: HostRuntime) -> io::Result<()> {
+    store_examples(&rt)?;
+    register_examples(&rt)?;
+    engine_examples(&rt)
 }

@@ -5,6 +5,7 @@
 
 use commands::{Op, OpFound};
 use edges::{Edge, EdgeVerdict, Move, State};
+use std::io;
 
 // Codes of service types.
 const RC: u8 = 0;
@@ -38,119 +39,135 @@ fn number(asked: Move, code: u8, service: u8) -> u8 {
     }
 }
 
-fn text(words: &[u8]) {
-    io::write_all(1, words);
+fn text(rt: &impl Print, words: &[u8]) -> io::Result<()> {
+    rt.write_all(words)
 }
 
 // The name of the state with this code; a code above 6 has none.
-fn print_name(code: u8) {
+fn print_name(rt: &impl Print, code: u8) -> io::Result<()> {
     match code {
-        0 => text(b"RESET"),
-        1 => text(b"INIT"),
-        2 => text(b"RTR"),
-        3 => text(b"RTS"),
-        4 => text(b"SQE"),
-        5 => text(b"SQD"),
-        6 => text(b"ERR"),
-        _ => {}
+        0 => text(rt, b"RESET"),
+        1 => text(rt, b"INIT"),
+        2 => text(rt, b"RTR"),
+        3 => text(rt, b"RTS"),
+        4 => text(rt, b"SQE"),
+        5 => text(rt, b"SQD"),
+        6 => text(rt, b"ERR"),
+        _ => Ok(()),
     }
 }
 
 // The heading before the first of a list, a comma before each later one.
-fn print_before(any: bool, heading: &[u8]) {
+fn print_before(rt: &impl Print, any: bool, heading: &[u8]) -> io::Result<()> {
     if any {
-        text(b", ");
-        return;
+        return text(rt, b", ");
     }
-    text(heading);
+    text(rt, heading)
 }
 
-fn print_if_none(any: bool, none: &[u8]) {
+fn print_if_none(rt: &impl Print, any: bool, none: &[u8]) -> io::Result<()> {
     if any {
-        return;
+        return Ok(());
     }
-    text(none);
+    text(rt, none)
 }
 
 // Prints a command's edge if it is permitted; answers whether any is printed by now. An op that is
 // no edge would show in the output.
-fn print_edge(any: bool, op: u16, code: u8, service: u8) -> bool {
+fn print_edge(rt: &impl Print, any: bool, op: u16, code: u8, service: u8) -> io::Result<bool> {
     let EdgeFound::Edge(edge) = edge_of(op) else {
-        text(b"WRONG ");
-        return any;
+        text(rt, b"WRONG ")?;
+        return Ok(any);
     };
     if number(Move::Command(edge), code, service) != 0 {
-        return any;
+        return Ok(any);
     }
-    print_before(any, b"commands ");
-    text(b"0x");
-    io::print_hex(1, op as u64, 1);
-    text(b" to ");
-    print_name(edges::state_code(edges::target(edge)));
-    true
+    print_before(rt, any, b"commands ")?;
+    text(rt, b"0x")?;
+    print!(rt; "{:x}", op as u64)?;
+    text(rt, b" to ")?;
+    print_name(rt, edges::state_code(edges::target(edge)))?;
+    Ok(true)
 }
 
-fn print_edges(ops: &[u16], code: u8, service: u8) {
+fn print_edges(rt: &impl Print, ops: &[u16], code: u8, service: u8) -> io::Result<()> {
     let mut any = false;
     let mut i = 0;
     while i < ops.len() {
-        any = print_edge(any, ops[i], code, service);
+        any = print_edge(rt, any, ops[i], code, service)?;
         i += 1;
     }
-    print_if_none(any, b"no command");
+    print_if_none(rt, any, b"no command")
 }
 
 // Prints the state that an engine write leaves, or would leave, if the write gets the number `wanted`.
-fn print_write(any: bool, to: State, code: u8, service: u8, wanted: u8, heading: &[u8]) -> bool {
+fn print_write(
+    rt: &impl Print,
+    any: bool,
+    to: State,
+    code: u8,
+    service: u8,
+    wanted: u8,
+    heading: &[u8],
+) -> io::Result<bool> {
     if number(Move::Engine(to), code, service) != wanted {
-        return any;
+        return Ok(any);
     }
-    print_before(any, heading);
-    print_name(edges::state_code(to));
-    true
+    print_before(rt, any, heading)?;
+    print_name(rt, edges::state_code(to))?;
+    Ok(true)
 }
 
 // Answers whether any is printed.
-fn print_writes(code: u8, service: u8, wanted: u8, heading: &[u8]) -> bool {
-    let mut any = print_write(false, State::Reset, code, service, wanted, heading);
-    any = print_write(any, State::Init, code, service, wanted, heading);
-    any = print_write(any, State::Rtr, code, service, wanted, heading);
-    any = print_write(any, State::Rts, code, service, wanted, heading);
-    any = print_write(any, State::Sqe, code, service, wanted, heading);
-    any = print_write(any, State::Sqd, code, service, wanted, heading);
-    print_write(any, State::Err, code, service, wanted, heading)
+fn print_writes(
+    rt: &impl Print,
+    code: u8,
+    service: u8,
+    wanted: u8,
+    heading: &[u8],
+) -> io::Result<bool> {
+    let mut any = print_write(rt, false, State::Reset, code, service, wanted, heading)?;
+    any = print_write(rt, any, State::Init, code, service, wanted, heading)?;
+    any = print_write(rt, any, State::Rtr, code, service, wanted, heading)?;
+    any = print_write(rt, any, State::Rts, code, service, wanted, heading)?;
+    any = print_write(rt, any, State::Sqe, code, service, wanted, heading)?;
+    any = print_write(rt, any, State::Sqd, code, service, wanted, heading)?;
+    print_write(rt, any, State::Err, code, service, wanted, heading)
 }
 
-fn print_code(code: u8) {
-    io::print_decimal(1, code as u64);
+fn print_code(rt: &impl Print, code: u8) -> io::Result<()> {
+    rt.print(code as u64)?;
     if code <= 6 {
-        text(b" ");
-        print_name(code);
+        text(rt, b" ")?;
+        print_name(rt, code)?;
     }
+    Ok(())
 }
 
 // The ops in the order of document 01's table of edges.
-fn print_line(code: u8, service: u8, name: &[u8]) {
-    print_code(code);
-    text(name);
+fn print_line(rt: &impl Print, code: u8, service: u8, name: &[u8]) -> io::Result<()> {
+    print_code(rt, code)?;
+    text(rt, name)?;
     print_edges(
+        rt,
         &[
             0x19, 0x2d, 0x1a, 0x1b, 0x1c, 0x1d, 0x1f, 0x38, 0x20, 0x1e, 0x21,
         ],
         code,
         service,
-    );
-    text(b"; ");
-    let any = print_writes(code, service, 0, b"engine writes ");
-    print_if_none(any, b"no engine write");
-    print_writes(code, service, 0x88, b"; 0x88 for ");
-    text(b"\n");
+    )?;
+    text(rt, b"; ")?;
+    let any = print_writes(rt, code, service, 0, b"engine writes ")?;
+    print_if_none(rt, any, b"no engine write")?;
+    print_writes(rt, code, service, 0x88, b"; 0x88 for ")?;
+    text(rt, b"\n")
 }
 
-fn main() {
+fn main(rt: HostRuntime) -> io::Result<()> {
     for code in 0..16u8 {
-        print_line(code, RC, b", RC: ");
-        print_line(code, UC, b", UC: ");
-        print_line(code, UD, b", UD: ");
+        print_line(&rt, code, RC, b", RC: ")?;
+        print_line(&rt, code, UC, b", UC: ")?;
+        print_line(&rt, code, UD, b", UD: ")?;
     }
+    Ok(())
 }

@@ -1,6 +1,8 @@
 // Runs the script of calls on standard input and prints an answer for each.
 #![tactic(auto)]
 
-fn main() {
-    script_run::run();
+use std::io;
+
+fn main(rt: HostRuntime) -> io::Result<()> {
+    script_run::run(&rt)
 }

@@ -1,6 +1,8 @@
 // Runs a script in which requests clash over the records that they hold.
 #![tactic(auto)]
 
-fn main() {
-    script_run::run();
+use std::io;
+
+fn main(rt: HostRuntime) -> io::Result<()> {
+    script_run::run(&rt)
 }

@@ -1,6 +1,8 @@
 // Runs a script that has every refusal, each with its cause.
 #![tactic(auto)]
 
-fn main() {
-    script_run::run();
+use std::io;
+
+fn main(rt: HostRuntime) -> io::Result<()> {
+    script_run::run(&rt)
 }

@@ -3,42 +3,55 @@
 
 use script_keywords::{Call, Device, Keyword};
 use script_session::{Session, after};
+use std::io;
 
 fn run_call(
+    rt: &impl Print,
     call: Call,
     session: Session,
     line: &[u8],
     store: &mut [u8],
     room: &mut [u8],
-) -> Session {
+) -> io::Result<Session> {
     match call {
-        Call::Command => script_submits::command(session, line, store, room),
-        Call::Engine => script_submits::engine(session, line, store, room),
-        Call::Step => script_steps::step(session, line, store, room),
-        Call::Collect => script_steps::collect(session, line, store, room),
-        Call::Reset => script_steps::reset(session, line, store, room),
+        Call::Command => script_submits::command(rt, session, line, store, room),
+        Call::Engine => script_submits::engine(rt, session, line, store, room),
+        Call::Step => script_steps::step(rt, session, line, store, room),
+        Call::Collect => script_steps::collect(rt, session, line, store, room),
+        Call::Reset => script_steps::reset(rt, session, line, store, room),
     }
 }
 
-fn run_device(device: Device, session: Session, line: &[u8]) -> Session {
+fn run_device(
+    rt: &impl Print,
+    device: Device,
+    session: Session,
+    line: &[u8],
+) -> io::Result<Session> {
     match device {
-        Device::State => script_session::state(session, line),
-        Device::Slot => script_session::slot(session, line),
-        Device::Show => script_session::show(session, line),
-        Device::Why => script_session::why(session, line),
+        Device::State => script_session::state(rt, session, line),
+        Device::Slot => script_session::slot(rt, session, line),
+        Device::Show => script_session::show(rt, session, line),
+        Device::Why => script_session::why(rt, session, line),
     }
 }
 
 // Runs a line.
-pub fn run_line(session: Session, line: &[u8], store: &mut [u8], room: &mut [u8]) -> Session {
+pub fn run_line(
+    rt: &impl Print,
+    session: Session,
+    line: &[u8],
+    store: &mut [u8],
+    room: &mut [u8],
+) -> io::Result<Session> {
     match script_keywords::read_keyword(script_words::word(line, 0)) {
-        Keyword::Call(call) => run_call(call, session, line, store, room),
+        Keyword::Call(call) => run_call(rt, call, session, line, store, room),
         Keyword::Memory(memory) => {
             let answers = session.answers;
-            let lending = script_memory::run(memory, session.lent, line, store, room, answers);
-            script_session::relend(session, lending)
+            let lending = script_memory::run(rt, memory, session.lent, line, store, room, answers)?;
+            Ok(script_session::relend(session, lending))
         }
-        Keyword::Device(device) => run_device(device, session, line),
-        Keyword::Unknown => after(session, false),
+        Keyword::Device(device) => run_device(rt, device, session, line),
+        Keyword::Unknown => Ok(after(session, false)),
     }
 }

@@ -1,9 +1,10 @@
 // The buffer through which a script is read: what was read and is not yet run stands at its front.
 #![tactic(auto)]
 
-ghost use Rattle.std.specs.Prelude.{◌≡◌, ◌≤◌, length, take};
+ghost use Rattle.std.specs.Prelude.{◌≡◌, ◌≤◌, length, take, IfOk};
 
-use libc::STDIN_FILENO;
+use std::io;
+use std::io::Read;
 
 pub const NEWLINE: u8 = 0x0a;
 
@@ -17,13 +18,12 @@ pub struct Filled {
 // Reads once behind the first `kept` bytes, and answers how many bytes there are then. What is read is
 // not known before, so the contract gives a bound; its last part follows, and is there for
 // `&buffer[..r]`.
-fn read_behind(buffer: &mut [u8], kept: usize) -> usize
+fn read_behind(input: &mut impl Read, buffer: &mut [u8], kept: usize) -> io::Result<usize>
     requires { kept ≤ length buffer.old }
-    ensures { (kept ≤ result) × (result ≤ length buffer.new) × (result ≡ length (take result buffer.new)) }
+    ensures { IfOk result (λ to. (kept ≤ to) × (to ≤ length buffer.new) × (to ≡ length (take to buffer.new))) }
 {
-    let behind = &mut buffer[kept..];
-    let got = libc::read(STDIN_FILENO, behind);
-    kept + io::count(got, behind)
+    let got = input.read(&mut buffer[kept..])?;
+    Ok(kept + got)
 }
 
 // How many of the first `to` bytes whole lines take: up to the last newline. The second part of the
@@ -62,13 +62,18 @@ fn to_front(bytes: &mut [u8], from: usize, to: usize) -> usize
 }
 
 // Moves the bytes from `from` to `to` to the front, and reads once behind them.
-pub fn refill(buffer: &mut [u8], from: usize, to: usize) -> Filled
-    ensures { (result.to ≤ length buffer.new) × (result.to ≡ length (take result.to buffer.new)) }
+pub fn refill(
+    input: &mut impl Read,
+    buffer: &mut [u8],
+    from: usize,
+    to: usize,
+) -> io::Result<Filled>
+    ensures { IfOk result (λ filled. (filled.to ≤ length buffer.new) × (filled.to ≡ length (take filled.to buffer.new))) }
 {
     let kept = to_front(buffer, from, to);
-    let all = read_behind(buffer, kept);
-    Filled {
+    let all = read_behind(input, buffer, kept)?;
+    Ok(Filled {
         to: all,
         ended: all == kept,
-    }
+    })
 }

@@ -1,60 +1,61 @@
 // What a script's answers are printed with, to standard output.
 #![tactic(auto)]
 
-use libc::STDOUT_FILENO;
+use std::io;
 
-pub fn text(words: &[u8]) {
-    io::write_all(STDOUT_FILENO, words);
+pub fn text(rt: &impl Print, words: &[u8]) -> io::Result<()> {
+    rt.write_all(words)
 }
 
-pub fn end() {
-    text(b"\n");
+pub fn end(rt: &impl Print) -> io::Result<()> {
+    text(rt, b"\n")
 }
 
 // If answers are printed.
-pub fn ok(answers: bool) {
+pub fn ok(rt: &impl Print, answers: bool) -> io::Result<()> {
     if answers {
-        text(b"ok\n");
+        text(rt, b"ok\n")?;
     }
+    Ok(())
 }
 
-pub fn decimal(n: u64) {
-    io::print_decimal(STDOUT_FILENO, n);
+pub fn decimal(rt: &impl Print, n: u64) -> io::Result<()> {
+    rt.print(n)
 }
 
 // Hexadecimal after `0x`, with no zeros in front.
-pub fn hexadecimal(n: u64) {
-    text(b"0x");
-    io::print_hex(STDOUT_FILENO, n, 1);
+pub fn hexadecimal(rt: &impl Print, n: u64) -> io::Result<()> {
+    text(rt, b"0x")?;
+    print!(rt; "{:x}", n)
 }
 
 // A space, and a decimal number.
-pub fn more(n: u64) {
-    text(b" ");
-    decimal(n);
+pub fn more(rt: &impl Print, n: u64) -> io::Result<()> {
+    text(rt, b" ")?;
+    decimal(rt, n)
 }
 
 // At most 256 bytes as pairs of digits.
-fn some_bytes(bytes: &[u8]) {
+fn some_bytes(rt: &impl Print, bytes: &[u8]) -> io::Result<()> {
     let mut pairs = [0u8; 512];
     script_bytes::spell(bytes, &mut pairs);
     let n = script_bytes::front(script_bytes::front(256, bytes) * 2, &pairs);
-    text(&pairs[..n]);
+    text(rt, &pairs[..n])
 }
 
 // Bytes as a script has them: `-` for none.
-pub fn bytes(bytes: &[u8]) {
+pub fn bytes(rt: &impl Print, bytes: &[u8]) -> io::Result<()> {
     if bytes.len() == 0 {
-        text(b"-");
+        text(rt, b"-")?;
     }
     let mut i = 0;
     while i < bytes.len() {
         if bytes.len() - i <= 256 {
-            some_bytes(&bytes[i..]);
-            return;
+            return some_bytes(rt, &bytes[i..]);
         }
         let next = i + 256;
-        some_bytes(&bytes[i..next]);
+        some_bytes(rt, &bytes[i..next])?;
         i = next;
     }
+    Ok(())
 }

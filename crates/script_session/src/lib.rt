@@ -8,8 +8,9 @@ use script_memory::{Lending, Lent};
 use script_numbers::NumberFound;
 use script_states::StateFound;
 use slots::Slot;
+use std::io;
 
-#[derive(Drop)]
+#[derive(Clone, Copy)]
 pub struct Session {
     pub hca: Hca,
     pub row: [Slot; 9],
@@ -81,14 +82,14 @@ pub fn relend(session: Session, lending: Lending) -> Session {
 }
 
 // `state OPEN LQ LC LE LM LEN`.
-pub fn state(session: Session, line: &[u8]) -> Session {
+pub fn state(rt: &impl Print, session: Session, line: &[u8]) -> io::Result<Session> {
     let StateFound::State(hca) = script_states::read_state(line) else {
-        return after(session, false);
+        return Ok(after(session, false));
     };
-    script_print::ok(session.answers);
+    script_print::ok(rt, session.answers)?;
     let mut next = session;
     next.hca = hca;
-    next
+    Ok(next)
 }
 
 // The same with another slot k.
@@ -103,39 +104,39 @@ fn with_slot(session: Session, k: usize, slot: Slot) -> Session {
 }
 
 // `slot K ..`.
-pub fn slot(session: Session, line: &[u8]) -> Session {
+pub fn slot(rt: &impl Print, session: Session, line: &[u8]) -> io::Result<Session> {
     let NumberFound::Number(k) = script_device::slot_number(line) else {
-        return after(session, false);
+        return Ok(after(session, false));
     };
     let SlotFound::Slot(slot) = script_device::read_slot(line) else {
-        return after(session, false);
+        return Ok(after(session, false));
     };
-    script_print::ok(session.answers);
-    with_slot(session, k as usize, slot)
+    script_print::ok(rt, session.answers)?;
+    Ok(with_slot(session, k as usize, slot))
 }
 
 // `show`.
-pub fn show(session: Session, line: &[u8]) -> Session {
+pub fn show(rt: &impl Print, session: Session, line: &[u8]) -> io::Result<Session> {
     if script_words::words(line) != 1 {
-        return after(session, false);
+        return Ok(after(session, false));
     }
     let lent = session.lent;
     let hca = session.hca;
     let row = session.row;
     if session.answers {
-        script_show::show(hca, row, lent.row);
+        script_show::show(rt, hca, row, lent.row)?;
     }
-    session
+    Ok(session)
 }
 
 // `why`.
-pub fn why(session: Session, line: &[u8]) -> Session {
+pub fn why(rt: &impl Print, session: Session, line: &[u8]) -> io::Result<Session> {
     if script_words::words(line) != 1 {
-        return after(session, false);
+        return Ok(after(session, false));
     }
     let cause = session.why;
     if session.answers {
-        script_causes::print_cause(cause);
+        script_causes::print_cause(rt, cause)?;
     }
-    session
+    Ok(session)
 }

@@ -5,53 +5,65 @@ use rules::{CollectAnswer, ResetAnswer, StepAnswer};
 use script_bytes::front;
 use script_print::{end, hexadecimal, more, text};
 use script_session::{Session, after, after_call};
+use std::io;
 
 // The bytes that a collection's buffer has before.
 const UNTOUCHED: u8 = 0xee;
 
-fn print_step(answer: StepAnswer, answers: bool) {
+fn print_step(rt: &impl Print, answer: StepAnswer, answers: bool) -> io::Result<()> {
     if !answers {
-        return;
+        return Ok(());
     }
-    hexadecimal(numbers_returned::step_number(answer) as u64);
+    hexadecimal(rt, numbers_returned::step_number(answer) as u64)?;
     match answer {
         StepAnswer::Left(n) => {
-            text(b" left");
-            more(n as u64);
-            end();
+            text(rt, b" left")?;
+            more(rt, n as u64)?;
+            end(rt)
         }
-        StepAnswer::Refused(_) => end(),
+        StepAnswer::Refused(_) => end(rt),
     }
 }
 
-fn print_collect(answer: CollectAnswer, buffer: &[u8], answers: bool) {
+fn print_collect(
+    rt: &impl Print,
+    answer: CollectAnswer,
+    buffer: &[u8],
+    answers: bool,
+) -> io::Result<()> {
     if !answers {
-        return;
+        return Ok(());
     }
-    hexadecimal(numbers_returned::collect_number(answer) as u64);
+    hexadecimal(rt, numbers_returned::collect_number(answer) as u64)?;
     match answer {
-        CollectAnswer::Collected(n) => more(n as u64),
+        CollectAnswer::Collected(n) => more(rt, n as u64)?,
         CollectAnswer::Refused(_) => {}
     }
-    text(b" ");
-    script_print::bytes(buffer);
-    end();
+    text(rt, b" ")?;
+    script_print::bytes(rt, buffer)?;
+    end(rt)
 }
 
-fn print_reset(answer: ResetAnswer, answers: bool) {
+fn print_reset(rt: &impl Print, answer: ResetAnswer, answers: bool) -> io::Result<()> {
     if !answers {
-        return;
+        return Ok(());
     }
-    hexadecimal(numbers_returned::reset_number(answer) as u64);
-    end();
+    hexadecimal(rt, numbers_returned::reset_number(answer) as u64)?;
+    end(rt)
 }
 
 // `step K`.
-pub fn step(session: Session, line: &[u8], store: &mut [u8], room: &mut [u8]) -> Session {
+pub fn step(
+    rt: &impl Print,
+    session: Session,
+    line: &[u8],
+    store: &mut [u8],
+    room: &mut [u8],
+) -> io::Result<Session> {
     let read = script_lines::numbers(line, 1, 1);
     let k = read.at[0] as usize;
     if !read.good {
-        return after(session, false);
+        return Ok(after(session, false));
     }
     let lent = session.lent;
     let hca = session.hca;
@@ -60,26 +72,27 @@ pub fn step(session: Session, line: &[u8], store: &mut [u8], room: &mut [u8]) ->
     let m = front(lent.room, room);
     let done = adapter_fronts::step_front(hca, row, lent.row, &mut store[..n], &mut room[..m], k);
     let answer = done.answer;
-    print_step(answer, session.answers);
+    print_step(rt, answer, session.answers)?;
     let row = done.row;
-    after_call(
+    Ok(after_call(
         hca,
         row,
         lent,
         call_causes::of_step(answer),
         session.lines,
         session.answers,
-    )
+    ))
 }
 
 // Collects slot k into a buffer.
 fn collect_into(
+    rt: &impl Print,
     session: Session,
     k: usize,
     buffer: &mut [u8],
     store: &[u8],
     room: &[u8],
-) -> Session {
+) -> io::Result<Session> {
     let lent = session.lent;
     let hca = session.hca;
     let row = session.row;
@@ -95,38 +108,50 @@ fn collect_into(
         buffer,
     );
     let answer = done.answer;
-    print_collect(answer, buffer, session.answers);
+    print_collect(rt, answer, buffer, session.answers)?;
     let row = done.row;
-    after_call(
+    Ok(after_call(
         hca,
         row,
         lent,
         call_causes::of_collect(answer),
         session.lines,
         session.answers,
-    )
+    ))
 }
 
 // `collect K LEN`.
-pub fn collect(session: Session, line: &[u8], store: &[u8], room: &[u8]) -> Session {
+pub fn collect(
+    rt: &impl Print,
+    session: Session,
+    line: &[u8],
+    store: &[u8],
+    room: &[u8],
+) -> io::Result<Session> {
     let read = script_lines::numbers(line, 1, 2);
     let k = read.at[0] as usize;
     let length = read.at[1] as usize;
     if !read.good {
-        return after(session, false);
+        return Ok(after(session, false));
     }
     if 512 < length {
-        return after(session, false);
+        return Ok(after(session, false));
     }
     let mut buffer = [UNTOUCHED; 512];
     let n = front(length, &buffer);
-    collect_into(session, k, &mut buffer[..n], store, room)
+    collect_into(rt, session, k, &mut buffer[..n], store, room)
 }
 
 // `reset`.
-pub fn reset(session: Session, line: &[u8], store: &[u8], room: &[u8]) -> Session {
+pub fn reset(
+    rt: &impl Print,
+    session: Session,
+    line: &[u8],
+    store: &[u8],
+    room: &[u8],
+) -> io::Result<Session> {
     if script_words::words(line) != 1 {
-        return after(session, false);
+        return Ok(after(session, false));
     }
     let lent = session.lent;
     let hca = session.hca;
@@ -136,15 +161,15 @@ pub fn reset(session: Session, line: &[u8], store: &[u8], room: &[u8]) -> Sessio
     let done = adapter_fronts::reset_front(hca, row, lent.row, &store[..n], &room[..m]);
     let reply = done.reply;
     let answer = reply.answer;
-    print_reset(answer, session.answers);
+    print_reset(rt, answer, session.answers)?;
     let row = done.row;
     let hca = reply.hca;
-    after_call(
+    Ok(after_call(
         hca,
         row,
         lent,
         call_causes::of_reset(answer),
         session.lines,
         session.answers,
-    )
+    ))
 }

@@ -7,6 +7,7 @@ use context::Logs;
 use possible::Hca;
 use script_keywords::Keyword;
 use slots::Slot;
+use std::io;
 use wave_text::{declare, enter, leave};
 use wave_values::ABSENT;
 
@@ -39,53 +40,53 @@ const TIME: usize = 75;
 // A value that no signal has: all differ from it.
 const UNWRITTEN: u64 = 0xffffffff_ffffffff;
 
-fn declare_slot(k: usize) {
+fn declare_slot(rt: &impl Print, k: usize) -> io::Result<()> {
     let first = SLOTS + k % 8 * 8;
-    wave_text::enter_slot(k);
-    declare(b"string 1", first, b"status");
-    declare(b"string 1", first + 1, b"request");
-    declare(b"string 1", first + 2, b"kind");
-    declare(b"wire 32", first + 3, b"number");
-    declare(b"wire 32", first + 4, b"cq");
-    declare(b"wire 32", first + 5, b"eq");
-    declare(b"wire 8", first + 6, b"moved");
-    declare(b"wire 8", first + 7, b"left");
-    leave();
+    wave_text::enter_slot(rt, k)?;
+    declare(rt, b"string 1", first, b"status")?;
+    declare(rt, b"string 1", first + 1, b"request")?;
+    declare(rt, b"string 1", first + 2, b"kind")?;
+    declare(rt, b"wire 32", first + 3, b"number")?;
+    declare(rt, b"wire 32", first + 4, b"cq")?;
+    declare(rt, b"wire 32", first + 5, b"eq")?;
+    declare(rt, b"wire 8", first + 6, b"moved")?;
+    declare(rt, b"wire 8", first + 7, b"left")?;
+    leave(rt)
 }
 
-fn declare_adapter() {
-    enter(b"adapter");
-    declare(b"wire 1", OPEN, b"open");
-    declare(b"wire 32", COUNTS, b"qps");
-    declare(b"wire 32", COUNTS + 1, b"cqs");
-    declare(b"wire 32", COUNTS + 2, b"eqs");
-    declare(b"wire 32", COUNTS + 3, b"mpts");
-    leave();
-    enter(b"holds");
-    declare(b"wire 8", READERS, b"readers");
-    declare(b"wire 8", WRITERS, b"writers");
-    leave();
+fn declare_adapter(rt: &impl Print) -> io::Result<()> {
+    enter(rt, b"adapter")?;
+    declare(rt, b"wire 1", OPEN, b"open")?;
+    declare(rt, b"wire 32", COUNTS, b"qps")?;
+    declare(rt, b"wire 32", COUNTS + 1, b"cqs")?;
+    declare(rt, b"wire 32", COUNTS + 2, b"eqs")?;
+    declare(rt, b"wire 32", COUNTS + 3, b"mpts")?;
+    leave(rt)?;
+    enter(rt, b"holds")?;
+    declare(rt, b"wire 8", READERS, b"readers")?;
+    declare(rt, b"wire 8", WRITERS, b"writers")?;
+    leave(rt)
 }
 
-fn declare_line() {
-    enter(b"call");
-    declare(b"event 1", MARK, b"mark");
-    declare(b"string 1", LINE, b"line");
-    declare(b"wire 8", RETURNED, b"returned");
-    declare(b"string 1", ROW, b"refusal");
-    leave();
+fn declare_line(rt: &impl Print) -> io::Result<()> {
+    enter(rt, b"call")?;
+    declare(rt, b"event 1", MARK, b"mark")?;
+    declare(rt, b"string 1", LINE, b"line")?;
+    declare(rt, b"wire 8", RETURNED, b"returned")?;
+    declare(rt, b"string 1", ROW, b"refusal")?;
+    leave(rt)
 }
 
-fn declare_all() {
-    script_print::text(b"$version Ecgslope waves $end\n$timescale 1 ns $end\n");
-    enter(b"ecgslope");
-    declare_line();
-    declare_adapter();
+fn declare_all(rt: &impl Print) -> io::Result<()> {
+    script_print::text(rt, b"$version Ecgslope waves $end\n$timescale 1 ns $end\n")?;
+    enter(rt, b"ecgslope")?;
+    declare_line(rt)?;
+    declare_adapter(rt)?;
     for k in 0..8 {
-        declare_slot(k);
+        declare_slot(rt, k)?;
     }
-    leave();
-    script_print::text(b"$enddefinitions $end\n");
+    leave(rt)?;
+    script_print::text(rt, b"$enddefinitions $end\n")
 }
 
 fn count(open: bool, log: u8) -> u64 {
@@ -146,49 +147,43 @@ fn put_line(view: &mut [u64; 80], code: u64, why: Cause) {
     view[ROW] = wave_codes::row_code(why);
 }
 
-fn print_value(i: usize, value: u64) {
+fn print_value(rt: &impl Print, i: usize, value: u64) -> io::Result<()> {
     if value == ABSENT {
-        wave_text::print_absent(i);
-        return;
+        return wave_text::print_absent(rt, i);
     }
-    wave_text::print_bits(i, value);
+    wave_text::print_bits(rt, i, value)
 }
 
-fn print_slot_change(i: usize, j: usize, value: u64) {
+fn print_slot_change(rt: &impl Print, i: usize, j: usize, value: u64) -> io::Result<()> {
     match j {
-        0 => wave_names::print_status(i, value),
-        1 => wave_names::print_request(i, value),
-        2 => wave_names::print_kind(i, value),
-        _ => print_value(i, value),
+        0 => wave_names::print_status(rt, i, value),
+        1 => wave_names::print_request(rt, i, value),
+        2 => wave_names::print_kind(rt, i, value),
+        _ => print_value(rt, i, value),
     }
 }
 
-fn print_change(i: usize, value: u64) {
+fn print_change(rt: &impl Print, i: usize, value: u64) -> io::Result<()> {
     if i == OPEN {
-        wave_text::print_bit(i, value);
-        return;
+        return wave_text::print_bit(rt, i, value);
     }
     if i == LINE {
-        wave_names::print_line(i, value);
-        return;
+        return wave_names::print_line(rt, i, value);
     }
     if i == ROW {
-        wave_names::print_row(i, value);
-        return;
+        return wave_names::print_row(rt, i, value);
     }
     if i < SLOTS {
-        print_value(i, value);
-        return;
+        return print_value(rt, i, value);
     }
     if LINE < i {
-        print_value(i, value);
-        return;
+        return print_value(rt, i, value);
     }
-    print_slot_change(i, i % 8, value);
+    print_slot_change(rt, i, i % 8, value)
 }
 
 // Writes what has changed, and keeps it.
-fn print_changes(view: &[u64; 80], seen: &mut [u64; 80]) {
+fn print_changes(rt: &impl Print, view: &[u64; 80], seen: &mut [u64; 80]) -> io::Result<()> {
     for i in 0..75 {
         if i == MARK {
             continue;
@@ -196,14 +191,15 @@ fn print_changes(view: &[u64; 80], seen: &mut [u64; 80]) {
         if view[i] == seen[i] {
             continue;
         }
-        print_change(i, view[i]);
+        print_change(rt, i, view[i])?;
         seen[i] = view[i];
     }
+    Ok(())
 }
 
 // The signals as they are before the first line, all of them.
-pub fn begin(hca: Hca, row: [Slot; 9], seen: &mut [u64; 80]) {
-    declare_all();
+pub fn begin(rt: &impl Print, hca: Hca, row: [Slot; 9], seen: &mut [u64; 80]) -> io::Result<()> {
+    declare_all(rt)?;
     let mut view = [0u64; 80];
     put_adapter(&mut view, hca);
     put_slots(&mut view, row);
@@ -211,44 +207,46 @@ pub fn begin(hca: Hca, row: [Slot; 9], seen: &mut [u64; 80]) {
     for i in 0..80 {
         seen[i] = UNWRITTEN;
     }
-    script_print::text(b"#0\n$dumpvars\n");
-    print_changes(&view, seen);
-    script_print::text(b"$end\n");
+    script_print::text(rt, b"#0\n$dumpvars\n")?;
+    print_changes(rt, &view, seen)?;
+    script_print::text(rt, b"$end\n")?;
     seen[TIME] = 0;
+    Ok(())
 }
 
 // The next time: a line more has taken one.
-fn print_time(line: u64, seen: &mut [u64; 80]) {
+fn print_time(rt: &impl Print, line: u64, seen: &mut [u64; 80]) -> io::Result<()> {
     let time = std::num::wrapping_add_u64(seen[TIME], 1);
     seen[TIME] = time;
-    wave_text::print_time(time, line);
-    wave_text::print_bit(MARK, 1);
+    wave_text::print_time(rt, time, line)?;
+    wave_text::print_bit(rt, MARK, 1)
 }
 
 // What a line of the script has changed. A line that only tells something takes no time.
 pub fn after_line(
+    rt: &impl Print,
     hca: Hca,
     row: [Slot; 9],
     why: Cause,
     keyword: Keyword,
     line: u64,
     seen: &mut [u64; 80],
-) {
+) -> io::Result<()> {
     let code = wave_codes::line_code(keyword);
     if code == 0 {
-        return;
+        return Ok(());
     }
     let mut view = [0u64; 80];
     put_adapter(&mut view, hca);
     put_slots(&mut view, row);
     put_line(&mut view, code, why);
-    print_time(line, seen);
-    print_changes(&view, seen);
+    print_time(rt, line, seen)?;
+    print_changes(rt, &view, seen)
 }
 
 // The end of the waves, one time behind the last line, so that a viewer shows what it left.
-pub fn end(seen: &[u64; 80]) {
-    script_print::text(b"#");
-    script_print::decimal(std::num::wrapping_add_u64(seen[TIME], 1));
-    script_print::end();
+pub fn end(rt: &impl Print, seen: &[u64; 80]) -> io::Result<()> {
+    script_print::text(rt, b"#")?;
+    script_print::decimal(rt, std::num::wrapping_add_u64(seen[TIME], 1))?;
+    script_print::end(rt)
 }

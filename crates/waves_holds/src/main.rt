@@ -1,6 +1,8 @@
 // The same as `waves`, over a clash of holds.
 #![tactic(auto)]
 
-fn main() {
-    script_run::run_waves();
+use std::io;
+
+fn main(rt: HostRuntime) -> io::Result<()> {
+    script_run::run_waves(&rt)
 }

@@ -1,5 +1,7 @@
 // The memory that the writes are tried on, and what is printed of it.
 
+use std::io;
+
 // The record starts at this byte of the store, so that other bytes stand before and behind it.
 pub const RECORD_AT: usize = 256;
 
@@ -38,24 +40,30 @@ fn wide(x: u8) -> u64 {
 }
 
 // A label and the bytes from `at` to `end` in hex, on one line.
-pub fn print_bytes(label: &[u8], s: &[u8], at: usize, end: usize) {
+pub fn print_bytes(
+    rt: &impl Print,
+    label: &[u8],
+    s: &[u8],
+    at: usize,
+    end: usize,
+) -> io::Result<()> {
     if s.len() < end {
-        return;
+        return Ok(());
     }
-    io::write_all(1, label);
+    rt.write_all(label)?;
     let mut i = at;
     while i < end {
-        io::print_hex(1, wide(s[i]), 2);
+        print!(rt; "{:02x}", wide(s[i]))?;
         i += 1;
     }
-    io::write_all(1, b"\n");
+    rt.write_all(b"\n")
 }
 
 // The head of a write's lines.
-pub fn print_number(label: &[u8], number: u64) {
-    io::write_all(1, label);
-    io::print_hex(1, number, 1);
-    io::write_all(1, b"\n");
+pub fn print_number(rt: &impl Print, label: &[u8], number: u64) -> io::Result<()> {
+    rt.write_all(label)?;
+    print!(rt; "{:x}", number)?;
+    rt.write_all(b"\n")
 }
 
 // Whether byte i of the store, b, is outside the record and changed.
@@ -80,22 +88,20 @@ fn has_stray(store: &[u8], end: usize) -> bool {
     false
 }
 
-fn print_verdict(same: bool, stray: bool) {
+fn print_verdict(rt: &impl Print, same: bool, stray: bool) -> io::Result<()> {
     if stray {
-        io::write_all(1, b"a byte outside the record CHANGED\n");
-        return;
+        return rt.write_all(b"a byte outside the record CHANGED\n");
     }
     if same {
-        io::write_all(1, b"same, every byte outside the record stayed\n");
-        return;
+        return rt.write_all(b"same, every byte outside the record stayed\n");
     }
-    io::write_all(1, b"DIFFERENT, every byte outside the record stayed\n");
+    rt.write_all(b"DIFFERENT, every byte outside the record stayed\n")
 }
 
 // The record that the bursts left and the one that the reference left, whether they are the same,
 // and whether the bursts left the bytes outside it.
-pub fn report(moved: &[u8], whole: &[u8], end: usize) {
-    print_bytes(b"bursts ", moved, RECORD_AT, end);
-    print_bytes(b"whole  ", whole, RECORD_AT, end);
-    print_verdict(check::same(moved, whole), has_stray(moved, end));
+pub fn report(rt: &impl Print, moved: &[u8], whole: &[u8], end: usize) -> io::Result<()> {
+    print_bytes(rt, b"bursts ", moved, RECORD_AT, end)?;
+    print_bytes(rt, b"whole  ", whole, RECORD_AT, end)?;
+    print_verdict(rt, check::same(moved, whole), has_stray(moved, end))
 }
