@@ -6,7 +6,7 @@ use Rattle.std.specs.Prelude.{◌≡◌, refl, [], ◌∷◌, ◌++◌}
 use Rattle.std.proofs.Common.{sym, ◌∙◌, ap}
 use Rattle.serial.specs.Core.{Alike, Sys, Entry, refused, done, running, Store, Journal}
 use Rattle.serial.specs.Core.{play, Quiet, req, Passes, Passed, Clear, Good, Inv}
-use Rattle.serial.proofs.Burst.{Elsewhere}
+use Rattle.serial.specs.Burst.{Elsewhere}
 
 module _ (S : Sys) where
   open S use {Rec, Req, Ans, Num, accepted, Prog, Sees, Writes, writes?}

@@ -9,7 +9,7 @@
 use Rattle.std.specs.Prelude.{◌≡◌, List, [], ◌∷◌, ◌++◌, map, ℕ}
 use Rattle.std.proofs.Math.Decide.{ℕ_discrete}
 use Rattle.serial.specs.Core.{Alike, Sys, Entry, refused, done, running, Store, Inv, Passes}
-use Rattle.serial.proofs.Burst.{Elsewhere}
+use Rattle.serial.specs.Burst.{Elsewhere}
 use Rattle.serial.specs.Order.{Done}
 
 module _ (S : Sys) where
