@@ -9,13 +9,15 @@ use Rattle.slots.specs.declared.Slot.{Slot}
 use Rattle.slots.specs.declared.Status.TheVariants.{Free}
 use Rattle.possible.specs.Possible.{impossible}
 use Rattle.possible.specs.declared.Hca.{Hca}
-use Rattle.rules.specs.World.{status_at, bad_row, bad_lent}
+use Rattle.rules.specs.World.{World, status_at, bad_row, bad_lent, bad_state}
+use Rattle.rules.specs.Laws.Decided.{Passing}
+use Rattle.lengths.proofs.Lengths.{lengths_lent}
 use Rattle.lengths.specs.Lengths.{lengths_wrong}
 use Rattle.device_bytes.specs.Decoding.{slot_at, slots_of, broken, row_of, hca_of}
 use Rattle.device_bytes.proofs.Walks.{length_slots}
 use Rattle.device_calls.specs.Calls.{world_of, slot_in}
-use Rattle.device_calls.proofs.Decodes.{flag_right, slot_is}
-use Rattle.device_calls.specs.Tests.{Tested, first_number, passing, sized}
+use Rattle.device_calls.proofs.Decodes.{lent_device, flag_right, slot_is}
+use Rattle.device_calls.specs.Tests.{Tested, first_number, world_number}
 
 -- ---- as the code makes them
 
@@ -68,6 +70,29 @@ eight dev l = rw (eq-eqb (length dev) 288 l) (go (ltb 1 (get_or dev 0 0)))
 pub other_length : (dev store room : List ℕ) → ¬ (length dev ≡ 288) → bad_lent (world_of dev store room) ≡ true
 unfolding bad_lent bad_row row_of
 other_length dev store room n = rw (ne_eqb (length dev) 288 n)
+
+module _ (dev store room : List ℕ) where
+  pub first_is : first_number dev (length store) (length room) ≡ world_number (world_of dev store room)
+  unfolding first_number bad_state
+  first_is = go (ℕ_discrete (length dev) 288)
+    where
+      go : Dec (length dev ≡ 288) → first_number dev (length store) (length room) ≡ world_number (world_of dev store room)
+      go (yes l) = rw (eq-eqb (length dev) 288 l, lengths_lent (hca_of dev) (row_of dev) store room (eight dev l))
+      go (no n) = rw (ne_eqb (length dev) 288 n, other_length dev store room n)
+
+  passes : world_number (world_of dev store room) ≡ 0 → Passing (world_of dev store room)
+  passes e = go (bad_lent (world_of dev store room)) refl (bad_state (world_of dev store room)) refl
+    where
+      go : (a : Bool) → bad_lent (world_of dev store room) ≡ a → (b : Bool) → bad_state (world_of dev store room) ≡ b
+          → Passing (world_of dev store room)
+      go true f b g = let z : ◌≡◌ {A = ℕ} 0x83 0 = rw f at e in absurd (omega arith)
+      go false f true g = let z : ◌≡◌ {A = ℕ} 0x87 0 = rw (f, g) at e in absurd (omega arith)
+      go false f false g = record { lent = f; possible = g }
+
+  pub tested : (n : ℕ) → n ≡ first_number dev (length store) (length room) → n ≡ 0 → Tested dev store room
+  tested n e z =
+      let p : Passing (world_of dev store room) = passes (sym first_is ∙ sym e ∙ z) in
+      record { sized = lent_device dev store room p.lent; passing = p }
 
 -- a slot of a device that passed them
 pub read_slot : (dev store room : List ℕ) (k : ℕ) (s : Slot) → Tested dev store room → k < 8 → s ≡ slot_at k dev

@@ -26,7 +26,8 @@ use Rattle.answering.specs.Collections as made
 use Rattle.device_bytes.specs.Decoding.{slot_at, row_of}
 use Rattle.device_bytes.specs.Encoding.{put_slot}
 use Rattle.device_calls.specs.Calls.{world_of, slot_in, Taken, taken, collect_left, collect_call}
-use Rattle.device_calls.specs.Tests.{first_number, first_is, world_number, Tested, tested}
+use Rattle.device_calls.specs.Tests.{first_number, world_number, Tested}
+use Rattle.device_calls.proofs.Tests.{first_is, tested}
 use Rattle.device_calls.proofs.Tests.{eight, read_slot, past_eighth}
 
 -- what is known of a device that passed the first tests, of its room and of one of its slots

@@ -17,7 +17,8 @@ use Rattle.deciding.specs.Ready.{OpenFits, passing_fits}
 use Rattle.applying.specs.Applies.{Applies, command_applies}
 use Rattle.device_bytes.specs.Decoding.{row_of, hca_of}
 use Rattle.device_calls.specs.Calls.{world_of, Left, left, submit_left, command_call}
-use Rattle.device_calls.specs.Tests.{first_number, first_is, world_number, Tested, tested}
+use Rattle.device_calls.specs.Tests.{first_number, world_number, Tested}
+use Rattle.device_calls.proofs.Tests.{first_is, tested}
 use Rattle.exported_apply.specs.Applied.{Ready}
 
 module _ (dev store room : List ℕ) (t : Tested dev store room) (h : Hca) (is : h ≡ hca_of dev) where

@@ -15,7 +15,8 @@ use Rattle.applying.specs.Applies.{engine_applies}
 use Rattle.device_bytes.specs.Decoding.{row_of, hca_of}
 use Rattle.device_calls.specs.Calls.{world_of, Left, left, submit_left, engine_call}
 use Rattle.device_calls.proofs.Decodes.{flag_right}
-use Rattle.device_calls.specs.Tests.{first_number, first_is, world_number, Tested, tested}
+use Rattle.device_calls.specs.Tests.{first_number, world_number, Tested}
+use Rattle.device_calls.proofs.Tests.{first_is, tested}
 use Rattle.exported_apply.specs.Applied.{Ready}
 use Rattle.exported_engine.specs.Asked.{NumberReady}
 

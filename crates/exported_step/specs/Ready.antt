@@ -24,7 +24,8 @@ use Rattle.moving.specs.Steps.{LookedUp, moving, step_made, step_none}
 use Rattle.device_bytes.specs.Decoding.{slot_at, row_of, hca_of}
 use Rattle.device_bytes.specs.Encoding.{put_moved}
 use Rattle.device_calls.specs.Calls.{world_of, slot_in, Left, left, step_left, step_call}
-use Rattle.device_calls.specs.Tests.{first_number, first_is, world_number, Tested, tested}
+use Rattle.device_calls.specs.Tests.{first_number, world_number, Tested}
+use Rattle.device_calls.proofs.Tests.{first_is, tested}
 use Rattle.device_calls.proofs.Tests.{eight, read_slot, past_eighth}
 
 -- a device that passed the first tests, its state, and one of its slots

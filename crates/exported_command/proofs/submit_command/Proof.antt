@@ -1,5 +1,5 @@
 -- `exported_command::submit_command` meets its contract.
-use Rattle.device_calls.specs.Tests.{tested}
+use Rattle.device_calls.proofs.Tests.{tested}
 use Rattle.exported_command.specs.Decided.{left_short, left_refused, left_submitted}
 use borrow.Author.Rules.{rules}
 use Rattle.exported_command.proofs.submit_command.Statement.{statement}

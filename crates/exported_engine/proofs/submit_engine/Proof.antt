@@ -1,5 +1,5 @@
 -- `exported_engine::submit_engine` meets its contract.
-use Rattle.device_calls.specs.Tests.{tested}
+use Rattle.device_calls.proofs.Tests.{tested}
 use Rattle.exported_engine.specs.Decided.{left_refused, left_submitted}
 use borrow.Author.Rules.{rules}
 use Rattle.exported_engine.proofs.submit_engine.Statement.{statement}
