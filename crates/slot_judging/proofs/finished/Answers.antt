@@ -1,0 +1,6 @@
+use Rattle.slot_judging.specs.Judging.{judged_by}
+use Rattle.slot_judging.proofs.finished.Goals as goal
+
+pub returns : goal.returns
+unfolding judged_by
+returns c = cc
