@@ -2,7 +2,7 @@
 // brought are run before the next read, so each is answered before more is asked for.
 #![tactic(auto)]
 
-ghost use Rattle.std.specs.Prelude.{◌≤◌, length};
+ghost use Rattle.std.specs.Prelude.{◌≡◌, ◌≢◌, ℕ, ◌<◌, ◌≤◌, length, slice_index};
 
 use script_input::NEWLINE;
 use script_session::{Session, after};
@@ -89,7 +89,9 @@ fn run_counted(
 // Where the line that starts at `from` ends: at the first newline, or behind the last byte.
 fn line_end(bytes: &[u8], from: usize) -> usize
     requires { from ≤ length bytes.now }
-    ensures { (from ≤ result) × (result ≤ length bytes.now) }
+    ensures within { (from ≤ result) × (result ≤ length bytes.now) }
+    ensures before { (k : ℕ) → from ≤ k → k < result → slice_index bytes.now k ≢ 10 }
+    ensures found { result < length bytes.now → slice_index bytes.now result ≡ 10 }
 {
     let mut to = from;
     while to < bytes.len() {

@@ -1,0 +1,6 @@
+use Rattle.lent_answers.specs.NotEight.{engine_not_eight}
+use Rattle.lent_answers.proofs.Tested.{other_row}
+use Rattle.adapter_engine.proofs.submit_engine.Goals as goal
+
+pub returns-then-row-ne8 : goal.returns-then-row-ne8
+returns-then-row-ne8 c = engine_not_eight _ _ _ _ (other_row _ c.if-row-ne8.true) _ _ _ _
