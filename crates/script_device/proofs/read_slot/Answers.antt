@@ -1,0 +1,31 @@
+use Rattle.std.proofs.Common.{refl}
+use Rattle.script_device.specs.Laws.{word_told, slot_read}
+use Rattle.script_device.specs.Slots.{command_slot, engine_slot, slot_in}
+use Rattle.words.proofs.Choice.{pick_yes, pick_no}
+use Rattle.script_device.proofs.read_slot.Goals as goal
+
+pub returns-then-same : goal.returns-then-same
+unfolding slot_in
+returns-then-same c = pick_yes _ _ _ _ (word_told _ _ _ _ _ c.same.ensures c.word.ensures c.if-same.true) c.free_slot.ensures
+
+pub returns-then-same-2 : goal.returns-then-same-2
+unfolding slot_in
+returns-then-same-2 c =
+    pick_no _ _ _ _ (word_told _ _ _ _ _ c.same.ensures c.word.ensures c.if-same.false)
+    (pick_yes _ _ _ _ (word_told _ _ _ _ _ c.same-2.ensures c.word-2.ensures c.if-same-2.true)
+    (slot_read command_slot _ _ _ _ _ c.word-then-same-2.ensures c.numbers.ensures c.command_slot.ensures))
+
+pub returns-then-same-3 : goal.returns-then-same-3
+unfolding slot_in
+returns-then-same-3 c =
+    pick_no _ _ _ _ (word_told _ _ _ _ _ c.same.ensures c.word.ensures c.if-same.false)
+    (pick_no _ _ _ _ (word_told _ _ _ _ _ c.same-2.ensures c.word-2.ensures c.if-same-2.false)
+    (pick_yes _ _ _ _ (word_told _ _ _ _ _ c.same-3.ensures c.word-3.ensures c.if-same-3.true)
+    (slot_read engine_slot _ _ _ _ _ c.word-then-same-3.ensures c.numbers-then-same-3.ensures c.engine_slot.ensures)))
+
+pub returns : goal.returns
+unfolding slot_in
+returns c =
+    pick_no _ _ _ _ (word_told _ _ _ _ _ c.same.ensures c.word.ensures c.if-same.false)
+    (pick_no _ _ _ _ (word_told _ _ _ _ _ c.same-2.ensures c.word-2.ensures c.if-same-2.false)
+    (pick_no _ _ _ _ (word_told _ _ _ _ _ c.same-3.ensures c.word-3.ensures c.if-same-3.false) refl))
