@@ -2,9 +2,11 @@
 -- Freer and Finishing are.
 use Rattle.std.specs.Prelude.{◌≡◌, List, ◌∷◌, ◌++◌}
 use Rattle.std.proofs.Common.{sym, ◌∙◌, ap, subst}
-use Rattle.serial.specs.Core.{Sys, Store, Journal, Quiet, Inv, good_plays}
+use Rattle.serial.specs.Core.{Sys, Store, Journal, Quiet, Inv}
+use Rattle.serial.proofs.Core.{good_plays}
 use Rattle.serial.specs.Order.{Done, finished, Feeds, play_feed, plays_feeds}
-use Rattle.serial.specs.Plain.{Plain, given, given_feed, given_at}
+use Rattle.serial.specs.Plain.{Plain, given}
+use Rattle.serial.proofs.Plain.{given_feed, given_at}
 use Rattle.serial.proofs.Freer.{Apart, Reorder, reorder_feeds, reorder_feed}
 
 module _ (S : Sys) (P : Plain S) where

@@ -7,7 +7,7 @@ use Rattle.std.specs.Prelude.{◌≡◌, refl, List, [], ◌∷◌, ◌++◌}
 use Rattle.std.proofs.Common.{sym, ◌∙◌, ap, ap₂, subst, subst₂, append-nil}
 use Rattle.std.proofs.Math.Path.{fun_ext}
 use Rattle.serial.specs.Core.{Sys, Entry, refused, done, running, Store, Journal, Passes, Clear, Inv}
-use Rattle.serial.specs.Burst.{good_clear}
+use Rattle.serial.proofs.Burst.{good_clear}
 use Rattle.serial.specs.Order.{Done, finished, finished_append}
 use Rattle.serial.specs.Slots.{View, Note, Item, off, gone, inside, settle, log, entry, stands}
 use Rattle.serial.specs.Slots.{Event, idle, turn, take, once, step, last, collect, holder, Keeps}

@@ -1,4 +1,7 @@
 -- The laws about the definitions of specs/, and the theorems.
+pub mod Core
+pub mod Burst
+pub mod Plain
 pub mod Submit
 pub mod Items
 pub mod Next

@@ -4,8 +4,9 @@ use Rattle.std.specs.Prelude.{◌≡◌, refl, List, [], ◌∷◌, ◌++◌, �
 use Rattle.std.proofs.Common.{sym, ◌∙◌, ap, ap₂, subst, subst₂, append-nil}
 use Rattle.std.proofs.Math.Path.{fun_ext}
 use Rattle.std.proofs.Math.Decide.{ℕ_discrete}
-use Rattle.serial.specs.Core.{Sys, Store, Inv, Claims, claims}
-use Rattle.serial.specs.Burst.{step_inv, last_inv}
+use Rattle.serial.specs.Core.{Sys, Store, Inv, Claims}
+use Rattle.serial.proofs.Core.{claims}
+use Rattle.serial.proofs.Burst.{step_inv, last_inv}
 use Rattle.serial.proofs.Submit.{refuse_inv, accept_inv, instant_inv}
 use Rattle.serial.specs.Order.{Done}
 use Rattle.serial.specs.Slots.{Slot, free, View, Note, Item, off, gone, inside, settle, log, entry, stands, But}

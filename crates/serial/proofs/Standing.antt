@@ -3,11 +3,13 @@
 use Rattle.std.specs.Prelude.{◌≡◌, refl, List, [], ◌∷◌, ◌++◌, ℕ}
 use Rattle.std.proofs.Common.{sym, ◌∙◌, ap, subst}
 use Rattle.serial.specs.Core.{Sys, Entry, refused, done, running, Store, Journal, play, Quiet, req, Passes, Clear, Good, Inv}
-use Rattle.serial.specs.Core.{Plays, good_plays, plays_left}
+use Rattle.serial.specs.Core.{Plays}
+use Rattle.serial.proofs.Core.{good_plays, plays_left}
 use Rattle.serial.specs.Order.{finished, play_feed, plays_feeds}
 use Rattle.serial.specs.Slots.{Item, inside, runs, View, entry, stands as standing, holder}
 use Rattle.serial.proofs.Items.{Located, locate, stands_append}
-use Rattle.serial.specs.Plain.{Plain, given_feed}
+use Rattle.serial.specs.Plain.{Plain}
+use Rattle.serial.proofs.Plain.{given_feed}
 use Rattle.serial.proofs.Told.{forgets, forgets_append, Told, within, tell, KeepsTold, finished_in, given_told}
 use Rattle.serial.proofs.Told.{finished_told, given_told_lem}
 

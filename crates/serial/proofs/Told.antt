@@ -9,7 +9,8 @@ use Rattle.serial.specs.Slots.{Slot, free, runs, ended, View, Note, nothing, tur
 use Rattle.serial.specs.Slots.{off, gone, inside, settle_one, settle, log, entry, stand, stands, Event, Keeps}
 use Rattle.serial.proofs.Items.{stands_append}
 use Rattle.serial.proofs.Next.{next, begin}
-use Rattle.serial.specs.Plain.{Plain, given, Demand, demand}
+use Rattle.serial.specs.Plain.{Plain, given, Demand}
+use Rattle.serial.proofs.Plain.{demand}
 
 -- ---- a split of what is left of a list is one of the list
 
