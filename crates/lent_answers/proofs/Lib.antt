@@ -1,2 +1,3 @@
--- What the code's test of the row's length says.
+-- A row that has not eight slots.
 pub mod Tested
+pub mod NotEight

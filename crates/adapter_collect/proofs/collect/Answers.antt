@@ -1,4 +1,4 @@
-use Rattle.lent_answers.specs.NotEight.{collect_not_eight}
+use Rattle.lent_answers.proofs.NotEight.{collect_not_eight}
 use Rattle.lent_answers.proofs.Tested.{other_row}
 use Rattle.adapter_collect.proofs.collect.Goals as goal
 

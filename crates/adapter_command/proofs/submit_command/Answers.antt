@@ -1,4 +1,4 @@
-use Rattle.lent_answers.specs.NotEight.{command_not_eight}
+use Rattle.lent_answers.proofs.NotEight.{command_not_eight}
 use Rattle.lent_answers.proofs.Tested.{other_row}
 use Rattle.adapter_command.proofs.submit_command.Goals as goal
 

@@ -1,4 +1,4 @@
-use Rattle.lent_answers.specs.NotEight.{engine_not_eight}
+use Rattle.lent_answers.proofs.NotEight.{engine_not_eight}
 use Rattle.lent_answers.proofs.Tested.{other_row}
 use Rattle.adapter_engine.proofs.submit_engine.Goals as goal
 

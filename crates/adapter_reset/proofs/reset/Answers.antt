@@ -1,4 +1,4 @@
-use Rattle.lent_answers.specs.NotEight.{reset_not_eight}
+use Rattle.lent_answers.proofs.NotEight.{reset_not_eight}
 use Rattle.lent_answers.proofs.Tested.{other_row}
 use Rattle.adapter_reset.proofs.reset.Goals as goal
 

@@ -1,4 +1,4 @@
-use Rattle.lent_answers.specs.NotEight.{step_not_eight}
+use Rattle.lent_answers.proofs.NotEight.{step_not_eight}
 use Rattle.lent_answers.proofs.Tested.{other_row}
 use Rattle.adapter_step.proofs.step.Goals as goal
 
