@@ -1,7 +1,7 @@
 // The buffer through which a script is read: what was read and is not yet run stands at its front.
 #![tactic(auto)]
 
-ghost use Rattle.std.specs.Prelude.{◌≡◌, ◌≤◌, length, take, IfOk};
+ghost use Rattle.std.specs.Prelude.{◌≡◌, ◌≤◌, length, take, IfOk, OnErr};
 
 use std::io;
 use std::io::Read;
@@ -17,10 +17,11 @@ pub struct Filled {
 
 // Reads once behind the first `kept` bytes, and answers how many bytes there are then. What is read is
 // not known before, so the contract gives a bound; its last part follows, and is there for
-// `&buffer[..r]`.
+// `&buffer[..r]`. The only error is the input's; it leaves a buffer of the same length, of any bytes.
 fn read_behind(input: &mut impl Read, buffer: &mut [u8], kept: usize) -> io::Result<usize>
     requires { kept ≤ length buffer.old }
-    ensures { IfOk result (λ to. (kept ≤ to) × (to ≤ length buffer.new) × (to ≡ length (take to buffer.new))) }
+    ensures ok { IfOk result (λ to. (kept ≤ to) × (to ≤ length buffer.new) × (to ≡ length (take to buffer.new))) }
+    ensures err { OnErr result (length buffer.new ≡ length buffer.old) }
 {
     let got = input.read(&mut buffer[kept..])?;
     Ok(kept + got)
@@ -61,14 +62,15 @@ fn to_front(bytes: &mut [u8], from: usize, to: usize) -> usize
     n
 }
 
-// Moves the bytes from `from` to `to` to the front, and reads once behind them.
+// Moves the bytes from `from` to `to` to the front, and reads once behind them. The only error is the input's.
 pub fn refill(
     input: &mut impl Read,
     buffer: &mut [u8],
     from: usize,
     to: usize,
 ) -> io::Result<Filled>
-    ensures { IfOk result (λ filled. (filled.to ≤ length buffer.new) × (filled.to ≡ length (take filled.to buffer.new))) }
+    ensures ok { IfOk result (λ filled. (filled.to ≤ length buffer.new) × (filled.to ≡ length (take filled.to buffer.new))) }
+    ensures err { OnErr result (length buffer.new ≡ length buffer.old) }
 {
     let kept = to_front(buffer, from, to);
     let all = read_behind(input, buffer, kept)?;
