@@ -2,6 +2,13 @@
 // example says all that went before it.
 ghost use Rattle.std.specs.Prelude.{◌≤◌};
 
+// The states' codes.
+pub const RTR: u8 = 2;
+
+pub const RTS: u8 = 3;
+
+pub const SQE: u8 = 4;
+
 // Which operation a call is of.
 pub const COMMAND: u8 = 0;
 
