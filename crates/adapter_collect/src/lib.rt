@@ -7,7 +7,7 @@ ghost use Rattle.rules.specs.Collections.{collected, collect_of};
 
 use lent_rows::{load, put};
 use possible::Hca;
-use rules::{CollectAnswer, Refusal};
+use rules::Refusal;
 use slots::Slot;
 
 // Frees slot `k`, which is finished, and writes its request's answer to the front of `out`.
@@ -18,12 +18,12 @@ pub fn collect(
     room: &[u8],
     k: usize,
     out: &mut [u8],
-) -> CollectAnswer
+) -> Result<usize, Refusal>
     ensures { collected result (world hca row.new store.now room.now) out.new
         ≡ collect_of (world hca row.old store.now room.now) k out.old }
 {
     if row.len() != 8 {
-        return CollectAnswer::Refused(Refusal::BadLength);
+        return Err(Refusal::BadLength);
     }
     let taken = load(row);
     let done = device_collect::collect(hca, taken, store, room, k, out);

@@ -7,17 +7,11 @@ ghost use Rattle.rules.specs.Admission.{submitted};
 ghost use Rattle.rules.specs.Engines.{submit_engine};
 ghost use Rattle.rules.specs.Commands.{submit_command};
 
-use front_rows::front;
-use lent_answers::SubmitReply;
+use front_rows::{FrontAnswer, front};
+use lent_answers::Reply;
 use possible::Hca;
+use rules::Submission;
 use slots::Slot;
-
-// What a submission hands back: its reply, and the nine slots.
-#[derive(Drop)]
-pub struct SubmittedFront {
-    pub reply: SubmitReply,
-    pub row: [Slot; 9],
-}
 
 // The submission of an engine request.
 pub fn engine_front(
@@ -30,14 +24,14 @@ pub fn engine_front(
     index: u32,
     psn: u32,
     state: u8,
-) -> SubmittedFront
-    ensures { (submitted result.reply.answer (world result.reply.hca (take n result.row) store.new room.new)
+) -> FrontAnswer<Reply<Submission>>
+    ensures { (submitted result.answer.answer (world result.answer.hca (take n result.row) store.new room.new)
         ≡ submit_engine (world hca (take n row) store.old room.old) number index psn state)
         × (drop n result.row ≡ drop n row) }
 {
     let m = front(n);
     let mut lent = row;
-    let reply = adapter_engine::submit_engine(
+    let answer = adapter_engine::submit_engine(
         hca,
         &mut lent[..m],
         store,
@@ -47,10 +41,7 @@ pub fn engine_front(
         psn,
         state,
     );
-    SubmittedFront {
-        reply: reply,
-        row: lent,
-    }
+    FrontAnswer { answer, row: lent }
 }
 
 // The submission of a command.
@@ -62,16 +53,13 @@ pub fn command_front(
     room: &mut [u8],
     bytes: &[u8],
     mail: &[u8],
-) -> SubmittedFront
-    ensures { (submitted result.reply.answer (world result.reply.hca (take n result.row) store.new room.new)
+) -> FrontAnswer<Reply<Submission>>
+    ensures { (submitted result.answer.answer (world result.answer.hca (take n result.row) store.new room.new)
         ≡ submit_command (world hca (take n row) store.old room.old) bytes.now mail.now)
         × (drop n result.row ≡ drop n row) }
 {
     let m = front(n);
     let mut lent = row;
-    let reply = adapter_command::submit_command(hca, &mut lent[..m], store, room, bytes, mail);
-    SubmittedFront {
-        reply: reply,
-        row: lent,
-    }
+    let answer = adapter_command::submit_command(hca, &mut lent[..m], store, room, bytes, mail);
+    FrontAnswer { answer, row: lent }
 }

@@ -8,32 +8,11 @@ ghost use Rattle.rules.specs.Steps.{stepped, step_of};
 ghost use Rattle.rules.specs.Collections.{collected, collect_of};
 ghost use Rattle.rules.specs.Resets.{resetted, reset_of};
 
-use front_rows::front;
-use lent_answers::ResetReply;
+use front_rows::{FrontAnswer, front};
+use lent_answers::Reply;
 use possible::Hca;
-use rules::{CollectAnswer, StepAnswer};
+use rules::Refusal;
 use slots::Slot;
-
-// What a step hands back: its answer, and the nine slots.
-#[derive(Drop)]
-pub struct SteppedFront {
-    pub answer: StepAnswer,
-    pub row: [Slot; 9],
-}
-
-// What a collection hands back.
-#[derive(Drop)]
-pub struct CollectedFront {
-    pub answer: CollectAnswer,
-    pub row: [Slot; 9],
-}
-
-// What a reset hands back.
-#[derive(Drop)]
-pub struct ResetFront {
-    pub reply: ResetReply,
-    pub row: [Slot; 9],
-}
 
 // A step.
 pub fn step_front(
@@ -43,7 +22,7 @@ pub fn step_front(
     store: &mut [u8],
     room: &mut [u8],
     k: usize,
-) -> SteppedFront
+) -> FrontAnswer<Result<u8, Refusal>>
     ensures { (stepped result.answer (world hca (take n result.row) store.new room.new)
         ≡ step_of (world hca (take n row) store.old room.old) k)
         × (drop n result.row ≡ drop n row) }
@@ -51,10 +30,7 @@ pub fn step_front(
     let m = front(n);
     let mut lent = row;
     let answer = adapter_step::step(hca, &mut lent[..m], store, room, k);
-    SteppedFront {
-        answer: answer,
-        row: lent,
-    }
+    FrontAnswer { answer, row: lent }
 }
 
 // A collection.
@@ -66,7 +42,7 @@ pub fn collect_front(
     room: &[u8],
     k: usize,
     out: &mut [u8],
-) -> CollectedFront
+) -> FrontAnswer<Result<usize, Refusal>>
     ensures { (collected result.answer (world hca (take n result.row) store.now room.now) out.new
         ≡ collect_of (world hca (take n row) store.now room.now) k out.old)
         × (drop n result.row ≡ drop n row) }
@@ -74,23 +50,23 @@ pub fn collect_front(
     let m = front(n);
     let mut lent = row;
     let answer = adapter_collect::collect(hca, &mut lent[..m], store, room, k, out);
-    CollectedFront {
-        answer: answer,
-        row: lent,
-    }
+    FrontAnswer { answer, row: lent }
 }
 
 // A reset.
-pub fn reset_front(hca: Hca, row: [Slot; 9], n: usize, store: &[u8], room: &[u8]) -> ResetFront
-    ensures { (resetted result.reply.answer (world result.reply.hca (take n result.row) store.now room.now)
+pub fn reset_front(
+    hca: Hca,
+    row: [Slot; 9],
+    n: usize,
+    store: &[u8],
+    room: &[u8],
+) -> FrontAnswer<Reply<()>>
+    ensures { (resetted result.answer.answer (world result.answer.hca (take n result.row) store.now room.now)
         ≡ reset_of (world hca (take n row) store.now room.now))
         × (drop n result.row ≡ drop n row) }
 {
     let m = front(n);
     let mut lent = row;
-    let reply = adapter_reset::reset(hca, &mut lent[..m], store, room);
-    ResetFront {
-        reply: reply,
-        row: lent,
-    }
+    let answer = adapter_reset::reset(hca, &mut lent[..m], store, room);
+    FrontAnswer { answer, row: lent }
 }

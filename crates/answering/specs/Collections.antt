@@ -1,6 +1,6 @@
 -- A collection of a slot that was looked up: what the slot promises to the writer of its answer if its request is finished, and what
 -- that and the refusals make of the collection.
-use Rattle.std.specs.Prelude.{◌≡◌, refl, List, ℕ, ◌≤◌, ◌<◌, length, get_or, set}
+use Rattle.std.specs.Prelude.{◌≡◌, refl, List, ℕ, ◌≤◌, ◌<◌, length, get_or, set, Ok}
 use Rattle.std.proofs.Common.{sym, ◌∙◌, ap, arith, lt-ltb, le-ltb}
 use Rattle.std.proofs.Math.Decide.{dec_lt}
 use Rattle.words.proofs.Choice.{pick_yes, pick_no}
@@ -15,7 +15,6 @@ use Rattle.slots.specs.declared.Status.{Status}
 use Rattle.slots.specs.declared.Status.TheVariants.{Free, Running, Finished}
 use Rattle.rows.proofs.Laws.{slot_beyond}
 use Rattle.rules.specs.declared.Refusal.TheVariants as cause
-use Rattle.rules.specs.declared.CollectAnswer.TheVariants as collect
 use Rattle.rules.specs.World.{World, with_row, status_at}
 use Rattle.rules.specs.Collections.{Collected, collected, collect_refused, answer_at, world_freed}
 use Rattle.rules.specs.Collections.{collect_finished, collect_on, collect_of}
@@ -55,7 +54,7 @@ module _ (w : World) (k : ℕ) (out : List ℕ) (t : Status) where
     -- the answer that was written, and the slot freed
     pub on_collected : size ≤ length out → (written : List ℕ) → written ≡ splice 0 (answer_of q (room_of k w.room)) out
         → (f : Slot) → f ≡ freed (get_or w.row k (slot Free))
-        → collected (collect.Collected size) (with_row w (set w.row k f)) written ≡ collect_on w k out t
+        → collected (Ok size) (with_row w (set w.row k f)) written ≡ collect_on w k out t
     unfolding collect_on collect_finished world_freed answer_at
     on_collected l written e f g =
         rw done (pick_no _ _ _ _ (le-ltb (length out) (answer_size q) (omega (arith, size_is))) (rw (size_is, e, g)))

@@ -1,11 +1,9 @@
 -- What applying a decision asks of the memory lent, and that every decision of the rules promises it.
-use Rattle.std.specs.Prelude.{List, [], ℕ, ◌<◌, length}
+use Rattle.std.specs.Prelude.{List, [], ℕ, ◌<◌, length, Result, Ok, Err}
 use Rattle.std.proofs.Common.{arith}
 use Rattle.context.proofs.Counts.{init_ranges, init_fits}
 use Rattle.requests.specs.declared.Request.{Request}
 use Rattle.rows.proofs.Laws.{lowest_free_is}
-use Rattle.rules.specs.declared.Decision.{Decision}
-use Rattle.rules.specs.declared.Decision.TheVariants as decide
 use Rattle.rules.specs.World.{World, store_length}
 use Rattle.rules.specs.Commands.{decide_command}
 use Rattle.rules.specs.Engines.{decide_engine}
@@ -13,15 +11,18 @@ use Rattle.rules.specs.Calls.{Asked}
 use Rattle.rules.proofs.Laws.Lent.{Sized, lent_sized}
 use Rattle.rules.specs.Laws.Decided.{Judging, Decided, plain, denied, misnamed, takes, closes, rests, opens}
 use Rattle.rules.proofs.Laws.Decided.{command_decided, engine_decided}
+use Rattle.rules.specs.declared.Decision.{Decision}
+use Rattle.rules.specs.declared.Refusal.{Refusal}
+use Rattle.rules.specs.declared.Decision.TheVariants as decide
 use Rattle.apply_parts.specs.Parts.{Opening, Taking}
 
 -- what each decision promises of the lengths of store, room and mailbox
-abbrev pub Applies : ℕ → ℕ → ℕ → Decision → Type 0
-Applies s r m (decide.Refuse c) = Unit {0}
-Applies s r m decide.Nothing = Unit {0}
-Applies s r m decide.Close = Unit {0}
-Applies s r m (decide.Open g) = Opening g s
-Applies s r m (decide.Take q k) = Taking q k r m
+abbrev pub Applies : ℕ → ℕ → ℕ → Result Decision Refusal → Type 0
+Applies s r m (Err c) = Unit {0}
+Applies s r m (Ok decide.Nothing) = Unit {0}
+Applies s r m (Ok decide.Close) = Unit {0}
+Applies s r m (Ok (decide.Open g)) = Opening g s
+Applies s r m (Ok (decide.Take q k)) = Taking q k r m
 
 module _ (w : World) (mail : List ℕ) where
   taking : (q : Request) (k : ℕ) → Judging w q mail → k < length w.row → Taking q k (length w.room) (length mail)
@@ -29,7 +30,7 @@ module _ (w : World) (mail : List ℕ) where
       let z : Sized w = lent_sized w j.asking.passing.lent in
       record { below = omega (arith, z.rowed); roomed = z.roomed; enough = j.enough }
 
-  decided_applies : {a : Asked} {d : Decision} → Decided w mail a d → Applies (store_length w) (length w.room) (length mail) d
+  decided_applies : {a : Asked} {d : Result Decision Refusal} → Decided w mail a d → Applies (store_length w) (length w.room) (length mail) d
   decided_applies (plain c e) = tt
   decided_applies (denied j e) = tt
   decided_applies (misnamed m) = tt

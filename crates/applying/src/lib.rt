@@ -10,18 +10,18 @@ ghost use Rattle.applying.specs.Calls.{handed};
 
 use handed_back::Submitted;
 use possible::Hca;
-use rules::{Decision, SubmitAnswer};
+use rules::{Decision, Refusal, Submission};
 use slots::Slot;
 
 // The answer and the state, with the slot to be stored and its place.
-fn hand_back(answer: SubmitAnswer, hca: Hca, at: usize, slot: Slot) -> Submitted
+fn hand_back(answer: Result<Submission, Refusal>, hca: Hca, at: usize, slot: Slot) -> Submitted
     ensures { result ≡ handed answer hca at slot }
 {
     Submitted {
-        answer: answer,
-        hca: hca,
-        at: at,
-        slot: slot,
+        answer,
+        hca,
+        at,
+        slot,
     }
 }
 
@@ -33,26 +33,27 @@ pub fn apply(
     store: &mut [u8],
     room: &mut [u8],
     mail: &[u8],
-    decision: Decision,
+    decision: Result<Decision, Refusal>,
 ) -> Submitted
     requires { Applies (length store.old) (length room.old) (length mail.now) decision }
     ensures { submit_handed row store.new room.new result
         ≡ applied (world hca row store.old room.old) mail.now decision }
 {
     let first = row[0];
+    let decision = match decision {
+        Ok(decision) => decision,
+        Err(cause) => return hand_back(Err(cause), hca, 0, first),
+    };
     match decision {
-        Decision::Refuse(cause) => hand_back(SubmitAnswer::Refused(cause), hca, 0, first),
-        Decision::Nothing => hand_back(SubmitAnswer::Done, hca, 0, first),
-        Decision::Close => hand_back(SubmitAnswer::Done, apply_parts::close_hca(hca), 0, first),
-        Decision::Open(logs) => hand_back(
-            SubmitAnswer::Done,
-            apply_parts::init_hca(logs, store),
-            0,
-            first,
-        ),
+        Decision::Nothing => hand_back(Ok(Submission::Done), hca, 0, first),
+        Decision::Close => hand_back(Ok(Submission::Done), apply_parts::close_hca(hca), 0, first),
+        Decision::Open(logs) => {
+            let opened = apply_parts::init_hca(logs, store);
+            hand_back(Ok(Submission::Done), opened, 0, first)
+        }
         Decision::Take(request, k) => {
             apply_parts::fill_room(room, mail, request, k);
-            hand_back(SubmitAnswer::Accepted(k), hca, k, row[k].accept(request))
+            hand_back(Ok(Submission::Accepted(k)), hca, k, row[k].accept(request))
         }
     }
 }

@@ -85,7 +85,7 @@ pub fn with_state(to: State, at: usize, b: u8) -> u8
     ensures { result ≡ with_state to at b }
 {
     if at == 0 {
-        return edges::state_code(to) * 16 + b % 16;
+        return u8::from(to) * 16 + b % 16;
     }
     b
 }

@@ -1,28 +1,27 @@
 -- The cause of a call's refusal, if it was refused.
-use Rattle.rules.specs.declared.SubmitAnswer.{SubmitAnswer}
-use Rattle.rules.specs.declared.SubmitAnswer.TheVariants as submit
-use Rattle.rules.specs.declared.StepAnswer.{StepAnswer}
-use Rattle.rules.specs.declared.StepAnswer.TheVariants as step
-use Rattle.rules.specs.declared.CollectAnswer.{CollectAnswer}
-use Rattle.rules.specs.declared.CollectAnswer.TheVariants as collect
-use Rattle.rules.specs.declared.ResetAnswer.{ResetAnswer}
-use Rattle.rules.specs.declared.ResetAnswer.TheVariants as reset
-use Rattle.call_causes.specs.declared.Cause.{Cause}
-use Rattle.call_causes.specs.declared.Cause.TheVariants.{None, Refused}
+use Rattle.std.specs.Prelude.{Option, Some, None, Result, Ok, Err, ℕ}
+use Rattle.rules.specs.declared.Refusal.{Refusal}
+use Rattle.rules.specs.declared.Submission.{Submission}
+use Rattle.rules.specs.declared.Submission.TheVariants as submit
 
-abbrev pub submit_cause : SubmitAnswer → Cause
-submit_cause submit.Done = None
-submit_cause (submit.Accepted k) = None
-submit_cause (submit.Refused c) = Refused c
+abbrev pub cause_of : {A : Type 0} → Result A Refusal → Option Refusal
+cause_of (Ok a) = None
+cause_of (Err c) = Some c
 
-abbrev pub step_cause : StepAnswer → Cause
-step_cause (step.Left n) = None
-step_cause (step.Refused c) = Refused c
+-- The same of each call's answer.
+abbrev pub submit_cause : Result Submission Refusal → Option Refusal
+submit_cause (Ok submit.Done) = None
+submit_cause (Ok (submit.Accepted k)) = None
+submit_cause (Err c) = Some c
 
-abbrev pub collect_cause : CollectAnswer → Cause
-collect_cause (collect.Collected n) = None
-collect_cause (collect.Refused c) = Refused c
+abbrev pub step_cause : Result ℕ Refusal → Option Refusal
+step_cause (Ok n) = None
+step_cause (Err c) = Some c
 
-abbrev pub reset_cause : ResetAnswer → Cause
-reset_cause reset.Done = None
-reset_cause (reset.Refused c) = Refused c
+abbrev pub collect_cause : Result ℕ Refusal → Option Refusal
+collect_cause (Ok n) = None
+collect_cause (Err c) = Some c
+
+abbrev pub reset_cause : Result (Unit {0}) Refusal → Option Refusal
+reset_cause (Ok tt) = None
+reset_cause (Err c) = Some c

@@ -2,50 +2,13 @@
 #![tactic(auto)]
 
 ghost use Rattle.std.specs.Prelude.{◌≡◌};
-ghost use Rattle.call_causes.specs.Causes.{submit_cause, step_cause, collect_cause, reset_cause};
+ghost use Rattle.call_causes.specs.Causes.{cause_of};
 
-use rules::{CollectAnswer, Refusal, ResetAnswer, StepAnswer, SubmitAnswer};
+use rules::Refusal;
 
-// Why a call was refused, if it was.
-#[derive(Clone, Copy)]
-pub enum Cause {
-    None,
-    Refused(Refusal),
-}
-
-pub fn of_submit(answer: SubmitAnswer) -> Cause
-    ensures { result ≡ submit_cause answer }
+// The cause, if the call was refused.
+pub fn of_answer<T: Drop>(answer: Result<T, Refusal>) -> Option<Refusal>
+    ensures { result ≡ cause_of answer }
 {
-    match answer {
-        SubmitAnswer::Done => Cause::None,
-        SubmitAnswer::Accepted(_) => Cause::None,
-        SubmitAnswer::Refused(cause) => Cause::Refused(cause),
-    }
-}
-
-pub fn of_step(answer: StepAnswer) -> Cause
-    ensures { result ≡ step_cause answer }
-{
-    match answer {
-        StepAnswer::Left(_) => Cause::None,
-        StepAnswer::Refused(cause) => Cause::Refused(cause),
-    }
-}
-
-pub fn of_collect(answer: CollectAnswer) -> Cause
-    ensures { result ≡ collect_cause answer }
-{
-    match answer {
-        CollectAnswer::Collected(_) => Cause::None,
-        CollectAnswer::Refused(cause) => Cause::Refused(cause),
-    }
-}
-
-pub fn of_reset(answer: ResetAnswer) -> Cause
-    ensures { result ≡ reset_cause answer }
-{
-    match answer {
-        ResetAnswer::Done => Cause::None,
-        ResetAnswer::Refused(cause) => Cause::Refused(cause),
-    }
+    answer.err()
 }

@@ -4,15 +4,11 @@
 -- handed back and left; nothing else is known of the call. An operation that ensures less gives no link.
 -- A chain is a list of calls that were made, each with its own answer and the world that it left. Each has its link, and each gets the
 -- state, row, store and room that the call before it left.
-use Rattle.std.specs.Prelude.{◌≡◌, Bool, false, List, [], ◌∷◌, ℕ}
+use Rattle.std.specs.Prelude.{◌≡◌, Bool, false, List, [], ◌∷◌, ℕ, Result}
 use Rattle.words.specs.Choice.{pick}
 use Rattle.context.specs.declared.Logs.{Logs}
 use Rattle.slots.specs.declared.Slot.{Slot}
 use Rattle.possible.specs.declared.Hca.{Hca}
-use Rattle.rules.specs.declared.SubmitAnswer.{SubmitAnswer}
-use Rattle.rules.specs.declared.StepAnswer.{StepAnswer}
-use Rattle.rules.specs.declared.CollectAnswer.{CollectAnswer}
-use Rattle.rules.specs.declared.ResetAnswer.{ResetAnswer}
 use Rattle.rules.specs.World.{World, world}
 use Rattle.rules.specs.Admission as admission
 use Rattle.rules.specs.Commands.{submit_command}
@@ -27,9 +23,10 @@ use Rattle.rules.specs.Calls.{Call, command, engine_request, step, collection, r
 use Rattle.rules.specs.Calls.{Answer, submitted, stepped, collected, reset_done, note_of, command_asked, is_init, is_done, reset_ends}
 use Rattle.rules.specs.Lending.{Lent, lend, give_back}
 use Rattle.rules.specs.Demand3.{Entry, noted}
+use Rattle.rules.specs.declared.Refusal.{Refusal}
+use Rattle.rules.specs.declared.Submission.{Submission}
 use Rattle.handed_back.specs.declared.Submitted.{Submitted}
-use Rattle.handed_back.specs.declared.Stepped.{Stepped}
-use Rattle.handed_back.specs.declared.Collected.{Collected}
+use Rattle.handed_back.specs.declared.HandedBack.{HandedBack}
 use Rattle.handed_back.specs.declared.WasReset.{WasReset}
 use Rattle.handed_back.specs.Handed.{submit_handed, step_handed, collect_handed, reset_handed}
 
@@ -52,10 +49,10 @@ pub data Link : World → Call → Answer → World → Type 0 where
       → submit_handed row storeLeft room_left r ≡ submit_engine (world hca row store room) number index psn state
       → Link (world hca row store room) (engine_request number index psn state) (submitted r.answer)
       (submit_handed row storeLeft room_left r).world
-  step_link : (hca : Hca) (row : List Slot) (store room : List ℕ) (k : ℕ) (r : Stepped) (storeLeft room_left : List ℕ)
+  step_link : (hca : Hca) (row : List Slot) (store room : List ℕ) (k : ℕ) (r : HandedBack ℕ) (storeLeft room_left : List ℕ)
       → step_handed hca row storeLeft room_left r ≡ step_of (world hca row store room) k
       → Link (world hca row store room) (step k) (stepped r.answer) (step_handed hca row storeLeft room_left r).world
-  collect_link : (hca : Hca) (row : List Slot) (store room : List ℕ) (k : ℕ) (out : List ℕ) (r : Collected) (outLeft : List ℕ)
+  collect_link : (hca : Hca) (row : List Slot) (store room : List ℕ) (k : ℕ) (out : List ℕ) (r : HandedBack ℕ) (outLeft : List ℕ)
       → collect_handed hca row store room outLeft r ≡ collect_of (world hca row store room) k out
       → Link (world hca row store room) (collection k out) (collected r.answer outLeft)
       (collect_handed hca row store room outLeft r).world
@@ -66,15 +63,15 @@ pub data Link : World → Call → Answer → World → Type 0 where
 -- What every form has to give: the answer and the world left, put together, are the result that the rules give. An operation that is lent
 -- the row, as it is lent store and room, ensures just this, of its answer and of what row, store and room are at its exit.
 pub data Promised : World → Call → Answer → World → Type 0 where
-  command_promised : {u v : World} {bytes mail : List ℕ} {a : SubmitAnswer}
+  command_promised : {u v : World} {bytes mail : List ℕ} {a : Result Submission Refusal}
       → admission.submitted a v ≡ submit_command u bytes mail → Promised u (command bytes mail) (submitted a) v
-  engine_promised : {u v : World} {number index psn state : ℕ} {a : SubmitAnswer}
+  engine_promised : {u v : World} {number index psn state : ℕ} {a : Result Submission Refusal}
       → admission.submitted a v ≡ submit_engine u number index psn state
       → Promised u (engine_request number index psn state) (submitted a) v
-  step_promised : {u v : World} {k : ℕ} {a : StepAnswer} → steps.stepped a v ≡ step_of u k → Promised u (step k) (stepped a) v
-  collect_promised : {u v : World} {k : ℕ} {out outLeft : List ℕ} {a : CollectAnswer}
+  step_promised : {u v : World} {k : ℕ} {a : Result ℕ Refusal} → steps.stepped a v ≡ step_of u k → Promised u (step k) (stepped a) v
+  collect_promised : {u v : World} {k : ℕ} {out outLeft : List ℕ} {a : Result ℕ Refusal}
       → collections.collected a v outLeft ≡ collect_of u k out → Promised u (collection k out) (collected a outLeft) v
-  reset_promised : {u v : World} {a : ResetAnswer} → resets.resetted a v ≡ reset_of u → Promised u resetting (reset_done a) v
+  reset_promised : {u v : World} {a : Result (Unit {0}) Refusal} → resets.resetted a v ≡ reset_of u → Promised u resetting (reset_done a) v
 
 -- ---- calls one after the other
 

@@ -1,11 +1,11 @@
 -- Laws about the definitions of specs/Permission.antt.
-use Rattle.std.specs.Prelude.{◌≡◌, refl, Bool, true, false, not, List, ℕ}
+use Rattle.std.specs.Prelude.{◌≡◌, refl, Bool, true, false, not, List, ℕ, Result, Ok, Err}
 use Rattle.std.proofs.Common.{sym, ◌∙◌, ap, arith}
 use Rattle.words.specs.Choice.{pick}
 use Rattle.edges.specs.Edges.{permits, for_some_type, judge_of}
 use Rattle.edges.specs.declared.Move.{Move}
 use Rattle.edges.specs.declared.Move.TheVariants as move
-use Rattle.edges.specs.declared.EdgeVerdict.TheVariants as edge
+use Rattle.edges.specs.declared.EdgeDenial.TheVariants as edgeDenial
 use Rattle.requests.specs.declared.Command.{Command}
 use Rattle.requests.specs.declared.Command.TheVariants as command
 use Rattle.requests.specs.declared.EngineRequest.{EngineRequest}
@@ -15,23 +15,22 @@ use Rattle.requests.specs.declared.Request.TheVariants as request
 use Rattle.checks.specs.Fields.{state_of, is_hardware}
 use Rattle.checks.specs.Verdicts.{verdict_number, by_edge}
 use Rattle.checks.specs.declared.Denial.TheVariants as denial
-use Rattle.checks.specs.declared.Verdict.{Verdict}
-use Rattle.checks.specs.declared.Verdict.TheVariants.{Permitted, Denied}
 use Rattle.checks.specs.Permission.{command_permits, engine_for_some_type, engine_permits, for_some_type_in, move_verdict, permission_of, permits_command, permits_engine, permits_in, permits_move}
+use Rattle.checks.specs.declared.Denial.{Denial}
 
 -- A verdict has the number 0 where the test holds, and else 0x85 (01, Numbers returned, 0x85) or, of an engine write that some service type
 -- permits, 0x88 (02, wish 5): for a record that must be software's, for one that must be the hardware's, for an edge, and so for every
 -- request. A command never gets 0x88.
-software_number : (b : Bool) → verdict_number (pick b (Denied denial.Owner) Permitted) ≡ pick (not b) 0 0x85
+software_number : (b : Bool) → verdict_number (pick b (Err denial.Owner) (Ok tt)) ≡ pick (not b) 0 0x85
 software_number true = refl
 software_number false = refl
 
-hardware_number : (b : Bool) → verdict_number (pick b Permitted (Denied denial.Owner)) ≡ pick b 0 0x85
+hardware_number : (b : Bool) → verdict_number (pick b (Ok tt) (Err denial.Owner)) ≡ pick b 0 0x85
 hardware_number true = refl
 hardware_number false = refl
 
 edge_number : (b t : Bool)
-    → verdict_number (by_edge (pick b edge.Permitted (pick t edge.NotForType edge.NotPermitted))) ≡ pick b 0 (pick t 0x88 0x85)
+    → verdict_number (by_edge (pick b (Ok tt) (pick t (Err edgeDenial.NotForType) (Err edgeDenial.NotPermitted)))) ≡ pick b 0 (pick t 0x88 0x85)
 edge_number true t = refl
 edge_number false true = refl
 edge_number false false = refl
@@ -67,10 +66,10 @@ number_holds false true e = absurd (omega arith)
 number_holds false false e = absurd (omega arith)
 
 -- Where the verdict is that the record permits the request, the test holds.
-pub permission_holds : (q : Request) (r : List ℕ) → permission_of q r ≡ Permitted → permits_in q r ≡ true
+pub permission_holds : (q : Request) (r : List ℕ) → permission_of q r ≡ Ok tt → permits_in q r ≡ true
 permission_holds q r e = number_holds (permits_in q r) (for_some_type_in q r) (sym (ap verdict_number e) ∙ permission_number q r)
 
 -- A verdict that is the record's, with its number.
-pub permission_told : (q : Request) (r : List ℕ) {v : Verdict} → v ≡ permission_of q r
+pub permission_told : (q : Request) (r : List ℕ) {v : Result (Unit {0}) Denial} → v ≡ permission_of q r
     → (v ≡ permission_of q r) × (verdict_number v ≡ pick (permits_in q r) 0 (pick (for_some_type_in q r) 0x88 0x85))
 permission_told q r e = (e, ap verdict_number e ∙ permission_number q r)

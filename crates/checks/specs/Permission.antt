@@ -1,5 +1,5 @@
 -- Whether a record's contents permit a request: the owner rule and the decision on edges.
-use Rattle.std.specs.Prelude.{Bool, true, false, not, List, ℕ}
+use Rattle.std.specs.Prelude.{Bool, true, false, not, List, ℕ, Result, Ok, Err}
 use Rattle.words.specs.Choice.{pick}
 use Rattle.edges.specs.Edges.{permits, for_some_type, judge_of}
 use Rattle.edges.specs.declared.Move.{Move}
@@ -13,40 +13,39 @@ use Rattle.requests.specs.declared.Request.TheVariants as request
 use Rattle.checks.specs.Fields.{state_of, service_of, is_hardware}
 use Rattle.checks.specs.Verdicts.{by_edge}
 use Rattle.checks.specs.declared.Denial.TheVariants as denial
-use Rattle.checks.specs.declared.Verdict.{Verdict}
-use Rattle.checks.specs.declared.Verdict.TheVariants.{Permitted, Denied}
+use Rattle.checks.specs.declared.Denial.{Denial}
 
 -- The verdict of a record that must be software's, and of one that must be the hardware's.
-abbrev pub software_only : List ℕ → Verdict
-software_only r = pick (is_hardware r) (Denied denial.Owner) Permitted
+abbrev pub software_only : List ℕ → Result (Unit {0}) Denial
+software_only r = pick (is_hardware r) (Err denial.Owner) (Ok tt)
 
-abbrev pub hardware_only : List ℕ → Verdict
-hardware_only r = pick (is_hardware r) Permitted (Denied denial.Owner)
+abbrev pub hardware_only : List ℕ → Result (Unit {0}) Denial
+hardware_only r = pick (is_hardware r) (Ok tt) (Err denial.Owner)
 
 -- The verdict on a move of the queue pair with this record, by its state code and service type.
-abbrev pub move_verdict : Move → List ℕ → Verdict
+abbrev pub move_verdict : Move → List ℕ → Result (Unit {0}) Denial
 move_verdict asked r = by_edge (judge_of asked (state_of r) (service_of r))
 
 -- SW2HW takes a record of software's; HW2SW and RESIZE_CQ take one of the hardware's; QUERY_QP takes any; an edge goes by the table of
 -- edges (01, Commands).
-abbrev pub command_permits : Command → List ℕ → Verdict
+abbrev pub command_permits : Command → List ℕ → Result (Unit {0}) Denial
 command_permits (command.Sw2Hw o) r = software_only r
 command_permits (command.Hw2Sw o) r = hardware_only r
 command_permits (command.ResizeCq n) r = hardware_only r
-command_permits (command.QueryQp n) r = Permitted
+command_permits (command.QueryQp n) r = Ok tt
 command_permits (command.ModifyQp e n) r = move_verdict (move.Command e) r
 
 -- Writes go by the engine's edges, and reads have no limit: "No other engine write is permitted" speaks of writes (01, Engine requests;
 -- docs/DECISIONS.md, 28).
-abbrev pub engine_permits : EngineRequest → List ℕ → Verdict
-engine_permits (engine.ReadState n) r = Permitted
-engine_permits (engine.ReadNext n) r = Permitted
-engine_permits (engine.ReadAll n) r = Permitted
+abbrev pub engine_permits : EngineRequest → List ℕ → Result (Unit {0}) Denial
+engine_permits (engine.ReadState n) r = Ok tt
+engine_permits (engine.ReadNext n) r = Ok tt
+engine_permits (engine.ReadAll n) r = Ok tt
 engine_permits (engine.Write p s n psn) r = move_verdict (move.Engine s) r
-engine_permits (engine.ReadJoined n c e) r = Permitted
+engine_permits (engine.ReadJoined n c e) r = Ok tt
 
 -- What a record with these bytes answers to a request.
-abbrev pub permission_of : Request → List ℕ → Verdict
+abbrev pub permission_of : Request → List ℕ → Result (Unit {0}) Denial
 permission_of (request.Command c) r = command_permits c r
 permission_of (request.Engine e) r = engine_permits e r
 

@@ -7,28 +7,21 @@ ghost use Rattle.words.specs.Parts.{part};
 ghost use Rattle.context.specs.Layout.{record_size};
 ghost use Rattle.request_table.specs.Records.{record_of};
 ghost use Rattle.checks.specs.Fields.{state_of, service_of, cq_named, eq_named, is_hardware};
-ghost use Rattle.checks.specs.Verdicts.{verdict_number, by_edge};
+ghost use Rattle.checks.specs.Verdicts.{verdict_number, denial_by};
 ghost use Rattle.checks.specs.Permission.{software_only, hardware_only, move_verdict, command_permits, engine_permits};
 ghost use Rattle.checks.specs.Permission.{permission_of, permits_in, for_some_type_in};
 
-use edges::{EdgeVerdict, Move};
+use edges::{EdgeDenial, Move};
 use requests::{Command, EngineRequest, Request};
 
 // Why a record's state denies a request: the edge is not permitted, or not for the record's service
 // type, the owner is the wrong one, or the record names another that the store has not.
-#[derive(Clone, Copy)]
+#[derive(Clone, Copy, Debug, PartialEq, Eq)]
 pub enum Denial {
     Edge,
     ServiceType,
     Owner,
     Name,
-}
-
-// What a record answers to a request.
-#[derive(Drop)]
-pub enum Verdict {
-    Permitted,
-    Denied(Denial),
 }
 
 // The state code in word 00h, bits 31:28.
@@ -72,48 +65,50 @@ fn is_hardware(rec: &[u8]) -> bool
 }
 
 // For a request that takes a record of software's.
-fn software_only(rec: &[u8]) -> Verdict
+fn software_only(rec: &[u8]) -> Result<(), Denial>
     requires { 64 ≤ length rec.now }
     ensures { result ≡ software_only rec.now }
 {
     if is_hardware(rec) {
-        return Verdict::Denied(Denial::Owner);
+        return Err(Denial::Owner);
     }
-    Verdict::Permitted
+    Ok(())
 }
 
 // For a request that takes a record of the hardware's.
-fn hardware_only(rec: &[u8]) -> Verdict
+fn hardware_only(rec: &[u8]) -> Result<(), Denial>
     requires { 64 ≤ length rec.now }
     ensures { result ≡ hardware_only rec.now }
 {
     if is_hardware(rec) {
-        return Verdict::Permitted;
+        return Ok(());
     }
-    Verdict::Denied(Denial::Owner)
+    Err(Denial::Owner)
 }
 
-// The decision on an edge, as a record's verdict.
-fn by_edge(verdict: EdgeVerdict) -> Verdict
-    ensures { result ≡ by_edge verdict }
-{
-    match verdict {
-        EdgeVerdict::Permitted => Verdict::Permitted,
-        EdgeVerdict::NotPermitted => Verdict::Denied(Denial::Edge),
-        EdgeVerdict::NotForType => Verdict::Denied(Denial::ServiceType),
+impl From<EdgeDenial> for Denial {
+    ghost from_gives = { λ edge denial. denial ≡ denial_by edge };
+
+    // The edge decision's denial, as a record's.
+    fn from(edge: EdgeDenial) -> Denial {
+        match edge {
+            EdgeDenial::NotPermitted => Denial::Edge,
+            EdgeDenial::NotForType => Denial::ServiceType,
+        }
     }
 }
 
 // Whether the queue pair with this record may make the move.
-fn move_permitted(asked: Move, rec: &[u8]) -> Verdict
+fn move_permitted(asked: Move, rec: &[u8]) -> Result<(), Denial>
     requires { 4 ≤ length rec.now }
     ensures { result ≡ move_verdict asked rec.now }
 {
-    by_edge(edges::judge(asked, state_code(rec), service(rec)))
+    edges::judge(asked, state_code(rec), service(rec))?;
+    Ok(())
 }
 
 // Whether a record's contents permit a command.
-fn command_permitted(command: Command, rec: &[u8]) -> Verdict
+fn command_permitted(command: Command, rec: &[u8]) -> Result<(), Denial>
     requires { 64 ≤ length rec.now }
     ensures { result ≡ command_permits command rec.now }
 {
@@ -121,27 +116,27 @@ fn command_permitted(command: Command, rec: &[u8]) -> Verdict
         Command::Sw2Hw(_) => software_only(rec),
         Command::Hw2Sw(_) => hardware_only(rec),
         Command::ResizeCq(_) => hardware_only(rec),
-        Command::QueryQp(_) => Verdict::Permitted,
+        Command::QueryQp(_) => Ok(()),
         Command::ModifyQp(edge, _) => move_permitted(Move::Command(edge), rec),
     }
 }
 
 // Whether a record's contents permit an engine request.
-fn engine_permitted(engine: EngineRequest, rec: &[u8]) -> Verdict
+fn engine_permitted(engine: EngineRequest, rec: &[u8]) -> Result<(), Denial>
     requires { 64 ≤ length rec.now }
     ensures { result ≡ engine_permits engine rec.now }
 {
     match engine {
-        EngineRequest::ReadState(_) => Verdict::Permitted,
-        EngineRequest::ReadNext(_) => Verdict::Permitted,
-        EngineRequest::ReadAll(_) => Verdict::Permitted,
+        EngineRequest::ReadState(_) => Ok(()),
+        EngineRequest::ReadNext(_) => Ok(()),
+        EngineRequest::ReadAll(_) => Ok(()),
         EngineRequest::Write(_, to, _, _) => move_permitted(Move::Engine(to), rec),
-        EngineRequest::ReadJoined(_, _, _) => Verdict::Permitted,
+        EngineRequest::ReadJoined(_, _, _) => Ok(()),
     }
 }
 
 // Whether a record's contents permit a request, and if not, why.
-pub fn permission(request: Request, rec: &[u8]) -> Verdict
+pub fn permission(request: Request, rec: &[u8]) -> Result<(), Denial>
     requires { 64 ≤ length rec.now }
     ensures { (result ≡ permission_of request rec.now)
         × (verdict_number result ≡ pick (permits_in request rec.now) 0 (pick (for_some_type_in request rec.now) 0x88 0x85)) }
@@ -161,7 +156,7 @@ fn size_of(request: Request) -> usize
 
 // Whether the record that starts at `at` of the store permits a request, and if not, why. The record-sized
 // part of the store is passed on to `permission`, which judges it.
-pub fn permission_at(request: Request, store: &[u8], at: usize) -> Verdict
+pub fn permission_at(request: Request, store: &[u8], at: usize) -> Result<(), Denial>
     requires { at + record_size (record_of request) ≤ length store.now }
     ensures { (result ≡ permission_of request (part at (record_size (record_of request)) store.now))
         × (verdict_number result ≡ pick (permits_in request (part at (record_size (record_of request)) store.now)) 0

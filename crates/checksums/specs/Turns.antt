@@ -1,6 +1,6 @@
 -- The turns of the loop over the bytes: what is left of them decides.
-use Rattle.std.specs.Prelude.{◌≡◌, refl, List, [], ◌∷◌, ℕ, ◌+◌, ◌*◌, ◌%◌, ◌≤◌, ◌<◌, length, get_or, drop}
-use Rattle.std.proofs.Common.{sym, ◌∙◌, add-one, drop_of_length-le, drop-cons}
+use Rattle.std.specs.Prelude.{◌≡◌, List, ℕ, ◌+◌, ◌*◌, ◌%◌, ◌≤◌, ◌<◌, length, get_or, drop}
+use Rattle.std.proofs.Common.{add-one, drop_of_length-le, drop-cons}
 use Rattle.checksums.specs.Adler.{adler_from}
 
 pub adler_more : (l : List ℕ) (i a b a' b' r : ℕ) → i < length l → a' ≡ (a + get_or l i 0) % 65521 → b' ≡ (b + a') % 65521

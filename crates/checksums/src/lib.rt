@@ -19,19 +19,17 @@ fn with_byte(a: u32, byte: u8) -> u32
     requires { a < 65521 }
     ensures { (result ≡ (a + byte) % 65521) × (result < 65521) }
 {
-    (a + byte as u32) % MODULUS
+    (a + u32::from(byte)) % MODULUS
 }
 
 pub fn adler32(bytes: &[u8]) -> u32
     ensures { result ≡ adler bytes.now }
 {
     let mut a = 1u32;
-    let mut b = 0u32;
-    let mut i = 0;
-    while i < bytes.len() {
-        a = with_byte(a, bytes[i]);
+    let mut b = 0;
+    for byte in bytes {
+        a = with_byte(a, *byte);
         b = sum(b, a);
-        i += 1;
     }
     b * 65536 + a
 }

@@ -1,19 +1,15 @@
 -- From op, op_modifier and in_modifier to the command (01, Commands).
-use Rattle.std.specs.Prelude.{Bool, false, List, [], ◌∷◌, ℕ, eqb, ltb}
+use Rattle.std.specs.Prelude.{Bool, false, List, [], ◌∷◌, ℕ, eqb, ltb, Option, Some, None}
 use Rattle.words.specs.Choice.{pick, both, either}
 use Rattle.context.specs.Layout.{count_of}
 use Rattle.numbers.specs.Numbers.{qp_of, cq_of, eq_of, mpt_of}
 use Rattle.context.specs.declared.Kind.{Kind}
 use Rattle.context.specs.declared.Kind.TheVariants as kind
 use Rattle.context.specs.declared.Logs.{Logs}
-use Rattle.numbers.specs.declared.QpFound.{QpFound}
-use Rattle.numbers.specs.declared.QpFound.TheVariants as qpFound
-use Rattle.numbers.specs.declared.CqFound.{CqFound}
-use Rattle.numbers.specs.declared.CqFound.TheVariants as cqFound
-use Rattle.numbers.specs.declared.EqFound.{EqFound}
-use Rattle.numbers.specs.declared.EqFound.TheVariants as eqFound
-use Rattle.numbers.specs.declared.MptFound.{MptFound}
-use Rattle.numbers.specs.declared.MptFound.TheVariants as mptFound
+use Rattle.context.specs.declared.CqNumber.{CqNumber}
+use Rattle.context.specs.declared.EqNumber.{EqNumber}
+use Rattle.context.specs.declared.MptNumber.{MptNumber}
+use Rattle.context.specs.declared.QpNumber.{QpNumber}
 use Rattle.edges.specs.declared.Edge.{Edge}
 use Rattle.edges.specs.declared.Edge.TheVariants.{ResetToInit, InitToInit, InitToRtr, RtrToRts, RtsToRts, SqeToRts}
 use Rattle.edges.specs.declared.Edge.TheVariants.{RtsToSqd, SqdToSqd, SqdToRts, ToErr, ToReset}
@@ -21,15 +17,11 @@ use Rattle.commands.specs.declared.Table.{Table}
 use Rattle.commands.specs.declared.Table.TheVariants as table
 use Rattle.requests.specs.declared.Owned.{Owned}
 use Rattle.requests.specs.declared.Owned.TheVariants as owned
-use Rattle.commands.specs.declared.OwnedFound.{OwnedFound}
-use Rattle.commands.specs.declared.OwnedFound.TheVariants as ownedFound
 use Rattle.requests.specs.declared.Command.TheVariants as command
-use Rattle.commands.specs.declared.CommandFound.{CommandFound}
-use Rattle.commands.specs.declared.CommandFound.TheVariants as found
 use Rattle.commands.specs.declared.Op.{Op}
 use Rattle.commands.specs.declared.Op.TheVariants as op
-use Rattle.commands.specs.declared.OpFound.{OpFound}
-use Rattle.commands.specs.declared.OpFound.TheVariants.{Served, NotServed}
+use Rattle.commands.specs.declared.CommandAsked.{CommandAsked}
+use Rattle.commands.specs.declared.CommandAsked.TheVariants as asked
 
 -- The ops that are served, each with its code; every other code, also one that document 000 lists, is not served (01, Commands).
 abbrev pub op_table : List (ℕ × Op)
@@ -58,11 +50,11 @@ op_table =
     ∷ (0x21, op.ModifyQp ToReset)
     ∷ []
 
-abbrev pub look_up : List (ℕ × Op) → ℕ → OpFound
-look_up [] code = NotServed
-look_up (row ∷ rows) code = pick (eqb code row.0) (Served row.1) (look_up rows code)
+abbrev pub look_up : List (ℕ × Op) → ℕ → Option Op
+look_up [] code = None
+look_up (row ∷ rows) code = pick (eqb code row.0) (Some row.1) (look_up rows code)
 
-unfoldable pub read_op : ℕ → OpFound
+unfoldable pub read_op : ℕ → Option Op
 read_op code = look_up op_table code
 
 -- The op_modifier of the edges to ERR and to RESET is 3, and that of every other op is 0 (01, Commands).
@@ -90,51 +82,51 @@ op_modifier_of op.QueryQp = 0
 op_modifier_of (op.ModifyQp e) = edge_modifier e
 
 -- in_modifier is the number of a record of the op's table, if it is below that table's count (01, Commands).
-abbrev pub on_mpt : MptFound → OwnedFound
-on_mpt (mptFound.Number n) = ownedFound.Record (owned.Mpt n)
-on_mpt mptFound.OutOfRange = ownedFound.OutOfRange
+abbrev pub on_mpt : Option MptNumber → Option Owned
+on_mpt (Some n) = Some (owned.Mpt n)
+on_mpt None = None
 
-abbrev pub on_eq : EqFound → OwnedFound
-on_eq (eqFound.Number n) = ownedFound.Record (owned.Eq n)
-on_eq eqFound.OutOfRange = ownedFound.OutOfRange
+abbrev pub on_eq : Option EqNumber → Option Owned
+on_eq (Some n) = Some (owned.Eq n)
+on_eq None = None
 
-abbrev pub on_cq : CqFound → OwnedFound
-on_cq (cqFound.Number n) = ownedFound.Record (owned.Cq n)
-on_cq cqFound.OutOfRange = ownedFound.OutOfRange
+abbrev pub on_cq : Option CqNumber → Option Owned
+on_cq (Some n) = Some (owned.Cq n)
+on_cq None = None
 
-abbrev pub owned_of : Logs → Table → ℕ → OwnedFound
+abbrev pub owned_of : Logs → Table → ℕ → Option Owned
 owned_of g table.Mpt n = on_mpt (mpt_of g n)
 owned_of g table.Eq n = on_eq (eq_of g n)
 owned_of g table.Cq n = on_cq (cq_of g n)
 
-abbrev pub sw2hw_of : OwnedFound → CommandFound
-sw2hw_of (ownedFound.Record r) = found.OnRecord (command.Sw2Hw r)
-sw2hw_of ownedFound.OutOfRange = found.Wrong
+abbrev pub sw2hw_of : Option Owned → Option CommandAsked
+sw2hw_of (Some r) = Some (asked.OnRecord (command.Sw2Hw r))
+sw2hw_of None = None
 
-abbrev pub hw2sw_of : OwnedFound → CommandFound
-hw2sw_of (ownedFound.Record r) = found.OnRecord (command.Hw2Sw r)
-hw2sw_of ownedFound.OutOfRange = found.Wrong
+abbrev pub hw2sw_of : Option Owned → Option CommandAsked
+hw2sw_of (Some r) = Some (asked.OnRecord (command.Hw2Sw r))
+hw2sw_of None = None
 
-abbrev pub resize_of : CqFound → CommandFound
-resize_of (cqFound.Number n) = found.OnRecord (command.ResizeCq n)
-resize_of cqFound.OutOfRange = found.Wrong
+abbrev pub resize_of : Option CqNumber → Option CommandAsked
+resize_of (Some n) = Some (asked.OnRecord (command.ResizeCq n))
+resize_of None = None
 
-abbrev pub query_of : QpFound → CommandFound
-query_of (qpFound.Number n) = found.OnRecord (command.QueryQp n)
-query_of qpFound.OutOfRange = found.Wrong
+abbrev pub query_of : Option QpNumber → Option CommandAsked
+query_of (Some n) = Some (asked.OnRecord (command.QueryQp n))
+query_of None = None
 
-abbrev pub modify_of : Edge → QpFound → CommandFound
-modify_of e (qpFound.Number n) = found.OnRecord (command.ModifyQp e n)
-modify_of e qpFound.OutOfRange = found.Wrong
+abbrev pub modify_of : Edge → Option QpNumber → Option CommandAsked
+modify_of e (Some n) = Some (asked.OnRecord (command.ModifyQp e n))
+modify_of e None = None
 
 -- The in_modifier of a command without a record is 0 (01, Commands).
-abbrev pub at_once : CommandFound → ℕ → CommandFound
-at_once c n = pick (eqb n 0) c found.Wrong
+abbrev pub at_once : Option CommandAsked → ℕ → Option CommandAsked
+at_once c n = pick (eqb n 0) c None
 
-abbrev pub addressed : Logs → Op → ℕ → CommandFound
-addressed g op.InitHca n = at_once found.InitHca n
-addressed g op.CloseHca n = at_once found.CloseHca n
-addressed g op.Nop n = at_once found.Nop n
+abbrev pub addressed : Logs → Op → ℕ → Option CommandAsked
+addressed g op.InitHca n = at_once (Some asked.InitHca) n
+addressed g op.CloseHca n = at_once (Some asked.CloseHca) n
+addressed g op.Nop n = at_once (Some asked.Nop) n
 addressed g (op.Sw2Hw t) n = sw2hw_of (owned_of g t n)
 addressed g (op.Hw2Sw t) n = hw2sw_of (owned_of g t n)
 addressed g op.ResizeCq n = resize_of (cq_of g n)
@@ -142,20 +134,20 @@ addressed g op.QueryQp n = query_of (qp_of g n)
 addressed g (op.ModifyQp e) n = modify_of e (qp_of g n)
 
 -- The op_modifier is judged, and the in_modifier; both give 3 (01, Numbers returned).
-unfoldable pub read_command : Logs → Op → ℕ → ℕ → CommandFound
-read_command g o modifier n = pick (eqb modifier (op_modifier_of o)) (addressed g o n) found.Wrong
+unfoldable pub read_command : Logs → Op → ℕ → ℕ → Option CommandAsked
+read_command g o modifier n = pick (eqb modifier (op_modifier_of o)) (addressed g o n) None
 
 -- 01's number for each answer: 2 is that of an op that is not served, 3 that of a wrong modifier (01, Numbers returned).
-abbrev pub op_found_number : OpFound → ℕ
-op_found_number (Served o) = 0
-op_found_number NotServed = 2
+abbrev pub op_found_number : Option Op → ℕ
+op_found_number (Some o) = 0
+op_found_number None = 2
 
-abbrev pub command_found_number : CommandFound → ℕ
-command_found_number found.InitHca = 0
-command_found_number found.CloseHca = 0
-command_found_number found.Nop = 0
-command_found_number (found.OnRecord c) = 0
-command_found_number found.Wrong = 3
+abbrev pub command_found_number : Option CommandAsked → ℕ
+command_found_number (Some asked.InitHca) = 0
+command_found_number (Some asked.CloseHca) = 0
+command_found_number (Some asked.Nop) = 0
+command_found_number (Some (asked.OnRecord c)) = 0
+command_found_number None = 3
 
 -- The 22 op codes that are served (01, Commands).
 abbrev pub served_ops : List ℕ
@@ -196,12 +188,12 @@ owned_at table.Mpt n = owned.Mpt (record { 0 = n })
 owned_at table.Eq n = owned.Eq (record { 0 = n })
 owned_at table.Cq n = owned.Cq (record { 0 = n })
 
-abbrev pub command_on : Op → ℕ → CommandFound
-command_on op.InitHca n = found.InitHca
-command_on op.CloseHca n = found.CloseHca
-command_on op.Nop n = found.Nop
-command_on (op.Sw2Hw t) n = found.OnRecord (command.Sw2Hw (owned_at t n))
-command_on (op.Hw2Sw t) n = found.OnRecord (command.Hw2Sw (owned_at t n))
-command_on op.ResizeCq n = found.OnRecord (command.ResizeCq (record { 0 = n }))
-command_on op.QueryQp n = found.OnRecord (command.QueryQp (record { 0 = n }))
-command_on (op.ModifyQp e) n = found.OnRecord (command.ModifyQp e (record { 0 = n }))
+abbrev pub command_on : Op → ℕ → Option CommandAsked
+command_on op.InitHca n = Some asked.InitHca
+command_on op.CloseHca n = Some asked.CloseHca
+command_on op.Nop n = Some asked.Nop
+command_on (op.Sw2Hw t) n = Some (asked.OnRecord (command.Sw2Hw (owned_at t n)))
+command_on (op.Hw2Sw t) n = Some (asked.OnRecord (command.Hw2Sw (owned_at t n)))
+command_on op.ResizeCq n = Some (asked.OnRecord (command.ResizeCq (record { 0 = n })))
+command_on op.QueryQp n = Some (asked.OnRecord (command.QueryQp (record { 0 = n })))
+command_on (op.ModifyQp e) n = Some (asked.OnRecord (command.ModifyQp e (record { 0 = n })))

@@ -11,7 +11,6 @@ ghost use Rattle.commands.specs.Commands.{is_served, op_found_number, command_ri
 
 use context::Logs;
 use edges::Edge;
-use numbers::{CqFound, EqFound, MptFound, QpFound};
 use requests::{Command, Owned};
 
 // The tables whose records have an owner.
@@ -35,56 +34,43 @@ pub enum Op {
     ModifyQp(Edge),
 }
 
-#[derive(Drop)]
-pub enum OpFound {
-    Served(Op),
-    NotServed,
-}
-
 // What a command asks for, once its modifiers are judged. The first three are done at once and use
 // no slot.
-#[derive(Drop)]
-pub enum CommandFound {
+#[derive(Clone, Copy)]
+pub enum CommandAsked {
     InitHca,
     CloseHca,
     Nop,
     OnRecord(Command),
-    Wrong,
 }
 
-#[derive(Drop)]
-pub enum OwnedFound {
-    Record(Owned),
-    OutOfRange,
-}
-
-pub fn read_op(code: u16) -> OpFound
+pub fn read_op(code: u16) -> Option<Op>
     ensures { (result ≡ read_op code) × (op_found_number result ≡ pick (is_served code) 0 2) }
 {
     match code {
-        0x07 => OpFound::Served(Op::InitHca),
-        0x08 => OpFound::Served(Op::CloseHca),
-        0x31 => OpFound::Served(Op::Nop),
-        0x0d => OpFound::Served(Op::Sw2Hw(Table::Mpt)),
-        0x13 => OpFound::Served(Op::Sw2Hw(Table::Eq)),
-        0x16 => OpFound::Served(Op::Sw2Hw(Table::Cq)),
-        0x0f => OpFound::Served(Op::Hw2Sw(Table::Mpt)),
-        0x14 => OpFound::Served(Op::Hw2Sw(Table::Eq)),
-        0x17 => OpFound::Served(Op::Hw2Sw(Table::Cq)),
-        0x2c => OpFound::Served(Op::ResizeCq),
-        0x22 => OpFound::Served(Op::QueryQp),
-        0x19 => OpFound::Served(Op::ModifyQp(Edge::ResetToInit)),
-        0x2d => OpFound::Served(Op::ModifyQp(Edge::InitToInit)),
-        0x1a => OpFound::Served(Op::ModifyQp(Edge::InitToRtr)),
-        0x1b => OpFound::Served(Op::ModifyQp(Edge::RtrToRts)),
-        0x1c => OpFound::Served(Op::ModifyQp(Edge::RtsToRts)),
-        0x1d => OpFound::Served(Op::ModifyQp(Edge::SqeToRts)),
-        0x1f => OpFound::Served(Op::ModifyQp(Edge::RtsToSqd)),
-        0x38 => OpFound::Served(Op::ModifyQp(Edge::SqdToSqd)),
-        0x20 => OpFound::Served(Op::ModifyQp(Edge::SqdToRts)),
-        0x1e => OpFound::Served(Op::ModifyQp(Edge::ToErr)),
-        0x21 => OpFound::Served(Op::ModifyQp(Edge::ToReset)),
-        _ => OpFound::NotServed,
+        0x07 => Some(Op::InitHca),
+        0x08 => Some(Op::CloseHca),
+        0x31 => Some(Op::Nop),
+        0x0d => Some(Op::Sw2Hw(Table::Mpt)),
+        0x13 => Some(Op::Sw2Hw(Table::Eq)),
+        0x16 => Some(Op::Sw2Hw(Table::Cq)),
+        0x0f => Some(Op::Hw2Sw(Table::Mpt)),
+        0x14 => Some(Op::Hw2Sw(Table::Eq)),
+        0x17 => Some(Op::Hw2Sw(Table::Cq)),
+        0x2c => Some(Op::ResizeCq),
+        0x22 => Some(Op::QueryQp),
+        0x19 => Some(Op::ModifyQp(Edge::ResetToInit)),
+        0x2d => Some(Op::ModifyQp(Edge::InitToInit)),
+        0x1a => Some(Op::ModifyQp(Edge::InitToRtr)),
+        0x1b => Some(Op::ModifyQp(Edge::RtrToRts)),
+        0x1c => Some(Op::ModifyQp(Edge::RtsToRts)),
+        0x1d => Some(Op::ModifyQp(Edge::SqeToRts)),
+        0x1f => Some(Op::ModifyQp(Edge::RtsToSqd)),
+        0x38 => Some(Op::ModifyQp(Edge::SqdToSqd)),
+        0x20 => Some(Op::ModifyQp(Edge::SqdToRts)),
+        0x1e => Some(Op::ModifyQp(Edge::ToErr)),
+        0x21 => Some(Op::ModifyQp(Edge::ToReset)),
+        _ => None,
     }
 }
 
@@ -121,34 +107,25 @@ fn op_modifier(op: Op) -> u8
     }
 }
 
-fn owned_mpt(logs: Logs, n: u32) -> OwnedFound
+fn owned_mpt(logs: Logs, n: u32) -> Option<Owned>
     ensures { result ≡ on_mpt (mpt_of logs n) }
 {
-    match numbers::mpt_number(logs, n) {
-        MptFound::Number(m) => OwnedFound::Record(Owned::Mpt(m)),
-        MptFound::OutOfRange => OwnedFound::OutOfRange,
-    }
+    Some(Owned::Mpt(numbers::mpt_number(logs, n)?))
 }
 
-fn owned_eq(logs: Logs, n: u32) -> OwnedFound
+fn owned_eq(logs: Logs, n: u32) -> Option<Owned>
     ensures { result ≡ on_eq (eq_of logs n) }
 {
-    match numbers::eq_number(logs, n) {
-        EqFound::Number(m) => OwnedFound::Record(Owned::Eq(m)),
-        EqFound::OutOfRange => OwnedFound::OutOfRange,
-    }
+    Some(Owned::Eq(numbers::eq_number(logs, n)?))
 }
 
-fn owned_cq(logs: Logs, n: u32) -> OwnedFound
+fn owned_cq(logs: Logs, n: u32) -> Option<Owned>
     ensures { result ≡ on_cq (cq_of logs n) }
 {
-    match numbers::cq_number(logs, n) {
-        CqFound::Number(m) => OwnedFound::Record(Owned::Cq(m)),
-        CqFound::OutOfRange => OwnedFound::OutOfRange,
-    }
+    Some(Owned::Cq(numbers::cq_number(logs, n)?))
 }
 
-fn read_owned(table: Table, logs: Logs, n: u32) -> OwnedFound
+fn read_owned(table: Table, logs: Logs, n: u32) -> Option<Owned>
     ensures { result ≡ owned_of logs table n }
 {
     match table {
@@ -158,68 +135,55 @@ fn read_owned(table: Table, logs: Logs, n: u32) -> OwnedFound
     }
 }
 
-fn sw2hw(table: Table, logs: Logs, n: u32) -> CommandFound
+fn sw2hw(table: Table, logs: Logs, n: u32) -> Option<CommandAsked>
     ensures { result ≡ sw2hw_of (owned_of logs table n) }
 {
-    match read_owned(table, logs, n) {
-        OwnedFound::Record(rec) => CommandFound::OnRecord(Command::Sw2Hw(rec)),
-        OwnedFound::OutOfRange => CommandFound::Wrong,
-    }
+    let rec = read_owned(table, logs, n)?;
+    Some(CommandAsked::OnRecord(Command::Sw2Hw(rec)))
 }
 
-fn hw2sw(table: Table, logs: Logs, n: u32) -> CommandFound
+fn hw2sw(table: Table, logs: Logs, n: u32) -> Option<CommandAsked>
     ensures { result ≡ hw2sw_of (owned_of logs table n) }
 {
-    match read_owned(table, logs, n) {
-        OwnedFound::Record(rec) => CommandFound::OnRecord(Command::Hw2Sw(rec)),
-        OwnedFound::OutOfRange => CommandFound::Wrong,
-    }
+    let rec = read_owned(table, logs, n)?;
+    Some(CommandAsked::OnRecord(Command::Hw2Sw(rec)))
 }
 
-fn resize(logs: Logs, n: u32) -> CommandFound
+fn resize(logs: Logs, n: u32) -> Option<CommandAsked>
     ensures { result ≡ resize_of (cq_of logs n) }
 {
-    match numbers::cq_number(logs, n) {
-        CqFound::Number(m) => CommandFound::OnRecord(Command::ResizeCq(m)),
-        CqFound::OutOfRange => CommandFound::Wrong,
-    }
+    let m = numbers::cq_number(logs, n)?;
+    Some(CommandAsked::OnRecord(Command::ResizeCq(m)))
 }
 
-fn query(logs: Logs, n: u32) -> CommandFound
+fn query(logs: Logs, n: u32) -> Option<CommandAsked>
     ensures { result ≡ query_of (qp_of logs n) }
 {
-    match numbers::qp_number(logs, n) {
-        QpFound::Number(m) => CommandFound::OnRecord(Command::QueryQp(m)),
-        QpFound::OutOfRange => CommandFound::Wrong,
-    }
+    let m = numbers::qp_number(logs, n)?;
+    Some(CommandAsked::OnRecord(Command::QueryQp(m)))
 }
 
-fn modify(edge: Edge, logs: Logs, n: u32) -> CommandFound
+fn modify(edge: Edge, logs: Logs, n: u32) -> Option<CommandAsked>
     ensures { result ≡ modify_of edge (qp_of logs n) }
 {
-    match numbers::qp_number(logs, n) {
-        QpFound::Number(m) => CommandFound::OnRecord(Command::ModifyQp(edge, m)),
-        QpFound::OutOfRange => CommandFound::Wrong,
-    }
+    let m = numbers::qp_number(logs, n)?;
+    Some(CommandAsked::OnRecord(Command::ModifyQp(edge, m)))
 }
 
 // A command without a record has the in_modifier 0.
-fn at_once(found: CommandFound, n: u32) -> CommandFound
-    ensures { result ≡ at_once found n }
+fn at_once(asked: CommandAsked, n: u32) -> Option<CommandAsked>
+    ensures { result ≡ at_once (Some asked) n }
 {
-    if n == 0 {
-        return found;
-    }
-    CommandFound::Wrong
+    if n == 0 { Some(asked) } else { None }
 }
 
-fn on_record(op: Op, logs: Logs, n: u32) -> CommandFound
+fn on_record(op: Op, logs: Logs, n: u32) -> Option<CommandAsked>
     ensures { result ≡ addressed logs op n }
 {
     match op {
-        Op::InitHca => at_once(CommandFound::InitHca, n),
-        Op::CloseHca => at_once(CommandFound::CloseHca, n),
-        Op::Nop => at_once(CommandFound::Nop, n),
+        Op::InitHca => at_once(CommandAsked::InitHca, n),
+        Op::CloseHca => at_once(CommandAsked::CloseHca, n),
+        Op::Nop => at_once(CommandAsked::Nop, n),
         Op::Sw2Hw(table) => sw2hw(table, logs, n),
         Op::Hw2Sw(table) => hw2sw(table, logs, n),
         Op::ResizeCq => resize(logs, n),
@@ -228,12 +192,12 @@ fn on_record(op: Op, logs: Logs, n: u32) -> CommandFound
     }
 }
 
-// The command, or `Wrong` where op_modifier, in_modifier or index is wrong.
-pub fn read_command(op: Op, modifier: u8, n: u32, logs: Logs) -> CommandFound
+// The command, or `None` where op_modifier, in_modifier or index is wrong.
+pub fn read_command(op: Op, modifier: u8, n: u32, logs: Logs) -> Option<CommandAsked>
     ensures { (result ≡ read_command logs op modifier n) × (command_found_number result ≡ pick (command_right logs op modifier n) 0 3) }
 {
     if modifier != op_modifier(op) {
-        return CommandFound::Wrong;
+        return None;
     }
     on_record(op, logs, n)
 }

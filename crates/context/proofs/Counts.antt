@@ -1,17 +1,17 @@
 -- Logarithms within their ranges give counts and starts that no sum of the code wraps; and those that INIT_HCA accepts give records
 -- that fit the store.
-use Rattle.std.specs.Prelude.{◌≡◌, List, ◌++◌, true, ℕ, ◌*◌, ◌%◌, ◌^◌, ◌≤◌, ◌<◌, ltb, leb, length, get_or}
+use Rattle.std.specs.Prelude.{◌≡◌, List, ◌++◌, true, ℕ, ◌*◌, ◌%◌, ◌^◌, ◌≤◌, ◌<◌, ltb, leb, length, get_or, Result, Ok, Err}
 use Rattle.std.proofs.Common.{sym, ◌∙◌, ap, subst, one-mul, mod-eq_of_lt, lt_of_lt_of_le, arith, leb-true, lt-ltb, le-ltb, length-append, pow_mono}
 use Rattle.std.proofs.Math.ListN.{get_or-append}
 use Rattle.std.proofs.Math.Pow.{pow-lt}
 use Rattle.words.proofs.Choice.{both_left, both_right, by_pick}
 use Rattle.context.specs.Layout.{start_of, in_use, ranges_hold, fits_store}
 use Rattle.context.specs.Init.{logs_of, init_rows, init_of}
-use Rattle.context.specs.declared.InitFound.{InitFound}
-use Rattle.context.specs.declared.InitFound.TheVariants.{Layout, ShortMailbox, OutOfRange}
 use Rattle.context.specs.declared.Kind.{Kind}
 use Rattle.context.specs.declared.Kind.TheVariants as kind
 use Rattle.context.specs.declared.Logs.{Logs}
+use Rattle.context.specs.declared.InitError.{InitError}
+use Rattle.context.specs.declared.InitError.TheVariants as initError
 
 -- a shift of 1 that keeps its bit
 pub one_shifted : (log : ℕ) → log < 64 → 1 * 2 ^ log % 2 ^ 64 ≡ 2 ^ log
@@ -60,25 +60,25 @@ start_small g kind.Eq h = let s : Small g = small g h in omega arith
 start_small g kind.Mpt h = let s : Small g = small g h in omega arith
 
 -- an INIT_HCA that is accepted gives counts that are within their ranges and fit the store
-pub init_accepted : (mailbox : List ℕ) (store : ℕ) (g : Logs) → init_of mailbox store ≡ Layout g → fits_store g store ≡ true
+pub init_accepted : (mailbox : List ℕ) (store : ℕ) (g : Logs) → init_of mailbox store ≡ Ok g → fits_store g store ≡ true
 unfolding init_of init_rows
 init_accepted mailbox store g =
-    by_pick (λ (i : InitFound). i ≡ Layout g → fits_store g store ≡ true) (ltb (length mailbox) 64) _ _ (λ _ e. short e)
-    (λ _. by_pick (λ (i : InitFound). i ≡ Layout g → fits_store g store ≡ true) (fits_store (logs_of mailbox) store) _ _
+    by_pick (λ (i : Result Logs InitError). i ≡ Ok g → fits_store g store ≡ true) (ltb (length mailbox) 64) _ _ (λ _ e. short e)
+    (λ _. by_pick (λ (i : Result Logs InitError). i ≡ Ok g → fits_store g store ≡ true) (fits_store (logs_of mailbox) store) _ _
     (λ t e. let f : logs_of mailbox ≡ g = cc in subst (λ (h : Logs). fits_store h store ≡ true) f t)
     (λ _ e. wrong e))
   where
-    short : ShortMailbox ≡ Layout g → fits_store g store ≡ true
+    short : Err initError.ShortMailbox ≡ Ok g → fits_store g store ≡ true
     short e = let z : ◌≡◌ {A = ℕ} 0 1 = cc in absurd (omega arith)
 
-    wrong : OutOfRange ≡ Layout g → fits_store g store ≡ true
+    wrong : Err initError.OutOfRange ≡ Ok g → fits_store g store ≡ true
     wrong e = let z : ◌≡◌ {A = ℕ} 0 1 = cc in absurd (omega arith)
 
-pub init_ranges : (mailbox : List ℕ) (store : ℕ) (g : Logs) → init_of mailbox store ≡ Layout g → ranges_hold g ≡ true
+pub init_ranges : (mailbox : List ℕ) (store : ℕ) (g : Logs) → init_of mailbox store ≡ Ok g → ranges_hold g ≡ true
 unfolding fits_store
 init_ranges mailbox store g e = both_left _ (leb (in_use g) store) (init_accepted mailbox store g e)
 
-pub init_fits : (mailbox : List ℕ) (store : ℕ) (g : Logs) → init_of mailbox store ≡ Layout g → in_use g ≤ store
+pub init_fits : (mailbox : List ℕ) (store : ℕ) (g : Logs) → init_of mailbox store ≡ Ok g → in_use g ≤ store
 unfolding fits_store
 init_fits mailbox store g e = leb-true _ _ (both_right (ranges_hold g) _ (init_accepted mailbox store g e))
 

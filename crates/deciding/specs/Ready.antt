@@ -1,5 +1,5 @@
 -- What the stages of a decision ask for, and that the tests before them give it.
-use Rattle.std.specs.Prelude.{◌≡◌, Bool, true, false, not, List, ℕ, ◌≤◌, ◌<◌, ltb, length}
+use Rattle.std.specs.Prelude.{◌≡◌, Bool, true, false, not, List, ℕ, ◌≤◌, ◌<◌, ltb, length, Option, Some, Result}
 use Rattle.std.proofs.Common.{sym, ◌∙◌, ap, subst, lt-ltb, le-ltb}
 use Rattle.std.proofs.lemmas.Bool.{not-false}
 use Rattle.words.proofs.Choice.{both_left}
@@ -11,10 +11,9 @@ use Rattle.requests.specs.declared.EngineRequest.{EngineRequest}
 use Rattle.requests.specs.declared.Request.{Request}
 use Rattle.requests.specs.declared.Request.TheVariants as request
 use Rattle.engines.specs.Engines.{read_engine}
-use Rattle.engines.specs.declared.EngineFound.{EngineFound}
-use Rattle.engines.specs.declared.EngineFound.TheVariants as found
 use Rattle.engines.specs.declared.EngineNumber.{EngineNumber}
-use Rattle.engines.specs.declared.NumberFound.{NumberFound}
+use Rattle.engines.specs.declared.EngineAsked.{EngineAsked}
+use Rattle.engines.specs.declared.EngineAsked.TheVariants as asked
 use Rattle.request_table.specs.Records.{record_of}
 use Rattle.burst_table.specs.Sizes.{slot_count}
 use Rattle.records.specs.Memory.{memory, Fits}
@@ -25,10 +24,11 @@ use Rattle.possible.specs.Possible.{impossible}
 use Rattle.possible.specs.declared.Hca.{Hca}
 use Rattle.rules.specs.World.{World, world, bad_state}
 use Rattle.rules.specs.Engines.{decide_number}
-use Rattle.rules.specs.declared.Decision.{Decision}
 use Rattle.rules.proofs.Laws.Lent.{open_fits}
 use Rattle.rules.proofs.Laws.Found.{Valid, engine_valid}
 use Rattle.rules.specs.Laws.Decided.{Passing}
+use Rattle.rules.specs.declared.Decision.{Decision}
+use Rattle.rules.specs.declared.Refusal.{Refusal}
 use Rattle.lengths.specs.Lengths.{lengths_wrong}
 use Rattle.lengths.proofs.Lengths.{passing}
 use Rattle.deciding_joined.specs.Named.{Has}
@@ -57,11 +57,11 @@ pub open_stored : (h : Hca) (store : List ℕ) (q : Request) → OpenFits h stor
 open_stored h store q f o v = record { ranges = f.ranges o; valid = v; fits = f.fits o }
 
 -- the memory has the record of the engine request that is found; of a joined read, the queue pair
-pub record EngineStored (g : Logs) (store : List ℕ) (f : EngineFound) : Type 0 where
-  pub stored : (e : EngineRequest) → f ≡ found.OnRecord e → Stored g store (request.Engine e)
-  pub joined : (n : QpNumber) → f ≡ found.Joined n → Has g store (rec.Qp n)
+pub record EngineStored (g : Logs) (store : List ℕ) (f : Option EngineAsked) : Type 0 where
+  pub stored : (e : EngineRequest) → f ≡ Some (asked.OnRecord e) → Stored g store (request.Engine e)
+  pub joined : (n : QpNumber) → f ≡ Some (asked.Joined n) → Has g store (rec.Qp n)
 
-pub engine_stored : (h : Hca) (store : List ℕ) (n : EngineNumber) (index psn state : ℕ) (f : EngineFound) → OpenFits h store
+pub engine_stored : (h : Hca) (store : List ℕ) (n : EngineNumber) (index psn state : ℕ) (f : Option EngineAsked) → OpenFits h store
     → not h.«open» ≡ false → f ≡ read_engine h.logs n index psn state → EngineStored h.logs store f
 engine_stored h store n index psn state f r o e =
     let opened : h.«open» ≡ true = not-false h.«open» o in
@@ -84,6 +84,6 @@ pub long : (m n k : ℕ) → n ≡ k → n ≤ m → ltb m k ≡ false
 long m n k e h = sym (ap (ltb m) e) ∙ le-ltb m n h
 
 -- the stage, at what the call before it answered
-pub number_told : (w : World) (index psn state : ℕ) (v u : NumberFound) (r : Decision) → v ≡ u
+pub number_told : (w : World) (index psn state : ℕ) (v u : Option EngineNumber) (r : Result Decision Refusal) → v ≡ u
     → r ≡ decide_number w index psn state v → r ≡ decide_number w index psn state u
 number_told w index psn state v u r e f = f ∙ ap (decide_number w index psn state) e

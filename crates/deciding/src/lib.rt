@@ -13,23 +13,24 @@ ghost use Rattle.rules.specs.Admission.{decide_verdict, decide_request};
 ghost use Rattle.rules.specs.Engines.{decide_asked, decide_number, decide_engine};
 ghost use Rattle.deciding.specs.Ready.{OpenFits, EngineStored};
 
-use checks::Verdict;
-use engines::{EngineFound, NumberFound};
+use checks::Denial;
+use engines::{EngineAsked, EngineNumber};
 use possible::Hca;
 use requests::Request;
-use rows::SlotFound;
 use rules::{Decision, Refusal};
 use slots::Slot;
 
 // What the record says of the request, with the lowest free slot.
-fn decide_verdict(free: SlotFound, request: Request, verdict: Verdict) -> Decision
+fn decide_verdict(
+    free: Option<usize>,
+    request: Request,
+    verdict: Result<(), Denial>,
+) -> Result<Decision, Refusal>
     ensures { (h : State) (row : List RowSlot) (store room : List ℕ) → free ≡ lowest_free 0 row
         → result ≡ decide_verdict (world h row store room) request verdict }
 {
-    match verdict {
-        Verdict::Permitted => deciding_joined::decide_place(request, free),
-        Verdict::Denied(denial) => Decision::Refuse(Refusal::Denied(denial)),
-    }
+    verdict?;
+    deciding_joined::decide_place(request, free)
 }
 
 // The end of both decisions: the mailbox, the holds, the record and the slot. The record is judged
@@ -38,23 +39,23 @@ fn decide_verdict(free: SlotFound, request: Request, verdict: Verdict) -> Decisi
 pub fn decide_known(
     hca: Hca,
     held: bool,
-    free: SlotFound,
+    free: Option<usize>,
     store: &[u8],
     mail: &[u8],
     request: Request,
-) -> Decision
+) -> Result<Decision, Refusal>
     requires { Stored hca.logs store.now request }
     ensures { (row : List RowSlot) (room : List ℕ) → held ≡ held_against row request → free ≡ lowest_free 0 row
         → result ≡ decide_request (world hca row store.now room) request mail.now }
 {
     if mail.len() < mailboxes::need(request) {
-        return Decision::Refuse(Refusal::ShortMailbox);
+        return Err(Refusal::ShortMailbox);
     }
     if !contents::content_holds(request, mail) {
-        return Decision::Refuse(Refusal::BadContent);
+        return Err(Refusal::BadContent);
     }
     if held {
-        return Decision::Refuse(Refusal::Held);
+        return Err(Refusal::Held);
     }
     let logs = hca.logs;
     decide_verdict(free, request, records::permission(logs, store, request))
@@ -67,7 +68,7 @@ pub fn decide_request(
     store: &[u8],
     mail: &[u8],
     request: Request,
-) -> Decision
+) -> Result<Decision, Refusal>
     requires { Stored hca.logs store.now request }
     ensures { (room : List ℕ) → result ≡ decide_request (world hca row store.now room) request mail.now }
 {
@@ -83,20 +84,23 @@ pub fn decide_request(
 
 // Index, PSN and state of an engine request. It has no mailbox. A joined read is asked for by its queue
 // pair alone: the names of the other records are still to be read.
-fn decide_asked(hca: Hca, row: [Slot; 8], store: &[u8], found: EngineFound) -> Decision
+fn decide_asked(
+    hca: Hca,
+    row: [Slot; 8],
+    store: &[u8],
+    found: Option<EngineAsked>,
+) -> Result<Decision, Refusal>
     requires { EngineStored hca.logs store.now found }
     ensures { (room : List ℕ) → result ≡ decide_asked (world hca row store.now room) found }
 {
-    match found {
-        EngineFound::OnRecord(engine) => decide_request(
-            hca,
-            row,
-            store,
-            &store[0..0],
-            Request::Engine(engine),
-        ),
-        EngineFound::Joined(n) => deciding_joined::decide_joined(hca, row, store, n),
-        EngineFound::Wrong => Decision::Refuse(Refusal::BadParameter),
+    let Some(asked) = found else {
+        return Err(Refusal::BadParameter);
+    };
+    match asked {
+        EngineAsked::OnRecord(engine) => {
+            decide_request(hca, row, store, &[], Request::Engine(engine))
+        }
+        EngineAsked::Joined(n) => deciding_joined::decide_joined(hca, row, store, n),
     }
 }
 
@@ -109,26 +113,19 @@ pub fn decide_number(
     index: u32,
     psn: u32,
     state: u8,
-    found: NumberFound,
-) -> Decision
+    found: Option<EngineNumber>,
+) -> Result<Decision, Refusal>
     requires { OpenFits hca store.now }
     ensures { (room : List ℕ) → result ≡ decide_number (world hca row store.now room) index psn state found }
 {
-    match found {
-        NumberFound::Served(number) => {
-            if !hca.open {
-                return Decision::Refuse(Refusal::BadSystemState);
-            }
-            let logs = hca.logs;
-            decide_asked(
-                hca,
-                row,
-                store,
-                engines::read_engine(number, index, psn, state, logs),
-            )
-        }
-        NumberFound::NotServed => Decision::Refuse(Refusal::NotServed),
+    let Some(number) = found else {
+        return Err(Refusal::NotServed);
+    };
+    if !hca.open {
+        return Err(Refusal::BadSystemState);
     }
+    let asked = engines::read_engine(number, index, psn, state, hca.logs);
+    decide_asked(hca, row, store, asked)
 }
 
 // What is decided of an engine request.
@@ -141,14 +138,14 @@ pub fn decide_engine(
     index: u32,
     psn: u32,
     state: u8,
-) -> Decision
+) -> Result<Decision, Refusal>
     ensures { result ≡ decide_engine (world hca row store.now room.now) number index psn state }
 {
     if lengths::lengths_wrong(hca, store.len(), room.len()) {
-        return Decision::Refuse(Refusal::BadLength);
+        return Err(Refusal::BadLength);
     }
     if state_checks::is_impossible(hca, row) {
-        return Decision::Refuse(Refusal::Impossible);
+        return Err(Refusal::Impossible);
     }
     decide_number(
         hca,

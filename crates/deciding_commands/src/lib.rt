@@ -6,7 +6,7 @@ ghost use Rattle.rules.specs.World.{world};
 ghost use Rattle.rules.specs.Commands.{decide_register, decide_command};
 ghost use Rattle.deciding.specs.Ready.{OpenFits};
 
-use hcr::ReadAnswer;
+use hcr::{HcrCommand, ReadError};
 use possible::Hca;
 use rules::{Decision, Refusal};
 use slots::Slot;
@@ -18,28 +18,23 @@ pub fn decide_register(
     row: [Slot; 8],
     store: &[u8],
     mail: &[u8],
-    read: ReadAnswer,
-) -> Decision
+    read: Result<HcrCommand, ReadError>,
+) -> Result<Decision, Refusal>
     requires { OpenFits hca store.now }
     ensures { (room : List ℕ) → result ≡ decide_register (world hca row store.now room) mail.now read }
 {
-    match read {
-        ReadAnswer::Command(command) => {
-            if command.event {
-                return Decision::Refuse(Refusal::Malformed);
-            }
-            deciding_ops::decide_op(
-                hca,
-                row,
-                store,
-                mail,
-                command,
-                commands::read_op(command.op),
-            )
-        }
-        ReadAnswer::Short => Decision::Refuse(Refusal::BadLength),
-        ReadAnswer::Malformed => Decision::Refuse(Refusal::Malformed),
+    let command = read?;
+    if command.event {
+        return Err(Refusal::Malformed);
     }
+    deciding_ops::decide_op(
+        hca,
+        row,
+        store,
+        mail,
+        command,
+        commands::read_op(command.op),
+    )
 }
 
 // What is decided of a command: its register bytes, and its mailbox.
@@ -50,18 +45,18 @@ pub fn decide_command(
     room: &[u8],
     bytes: &[u8],
     mail: &[u8],
-) -> Decision
+) -> Result<Decision, Refusal>
     ensures { result ≡ decide_command (world hca row store.now room.now)
         bytes.now mail.now }
 {
     if lengths::lengths_wrong(hca, store.len(), room.len()) {
-        return Decision::Refuse(Refusal::BadLength);
+        return Err(Refusal::BadLength);
     }
     if bytes.len() < 28 {
-        return Decision::Refuse(Refusal::BadLength);
+        return Err(Refusal::BadLength);
     }
     if state_checks::is_impossible(hca, row) {
-        return Decision::Refuse(Refusal::Impossible);
+        return Err(Refusal::Impossible);
     }
     decide_register(hca, row, store, mail, hcr_reader::read(bytes))
 }

@@ -7,8 +7,8 @@ ghost use Rattle.rules.specs.Commands.{decide_init, decide_found, decide_op};
 ghost use Rattle.deciding.specs.Ready.{OpenFits};
 ghost use Rattle.deciding_ops.specs.Ready.{CommandStored};
 
-use commands::{CommandFound, OpFound};
-use context::InitFound;
+use commands::{CommandAsked, Op};
+use context::{InitError, Logs};
 use hcr::HcrCommand;
 use possible::Hca;
 use requests::Request;
@@ -16,14 +16,10 @@ use rules::{Decision, Refusal};
 use slots::Slot;
 
 // What INIT_HCA's mailbox says.
-fn decide_init(found: InitFound) -> Decision
+fn decide_init(found: Result<Logs, InitError>) -> Result<Decision, Refusal>
     ensures { result ≡ decide_init found }
 {
-    match found {
-        InitFound::Layout(logs) => Decision::Open(logs),
-        InitFound::ShortMailbox => Decision::Refuse(Refusal::ShortMailbox),
-        InitFound::OutOfRange => Decision::Refuse(Refusal::BadContent),
-    }
+    Ok(Decision::Open(found?))
 }
 
 // The modifiers of a command. Three commands are done at once; every other is a request on a record.
@@ -32,23 +28,21 @@ fn decide_found(
     row: [Slot; 8],
     store: &[u8],
     mail: &[u8],
-    found: CommandFound,
-) -> Decision
+    found: Option<CommandAsked>,
+) -> Result<Decision, Refusal>
     requires { CommandStored hca.logs store.now found }
     ensures { (room : List ℕ) → result ≡ decide_found (world hca row store.now room) mail.now found }
 {
-    match found {
-        CommandFound::InitHca => decide_init(store_tables::read_init(mail, store.len())),
-        CommandFound::CloseHca => Decision::Close,
-        CommandFound::Nop => Decision::Nothing,
-        CommandFound::OnRecord(command) => deciding::decide_request(
-            hca,
-            row,
-            store,
-            mail,
-            Request::Command(command),
-        ),
-        CommandFound::Wrong => Decision::Refuse(Refusal::BadParameter),
+    let Some(asked) = found else {
+        return Err(Refusal::BadParameter);
+    };
+    match asked {
+        CommandAsked::InitHca => decide_init(store_tables::read_init(mail, store.len())),
+        CommandAsked::CloseHca => Ok(Decision::Close),
+        CommandAsked::Nop => Ok(Decision::Nothing),
+        CommandAsked::OnRecord(command) => {
+            deciding::decide_request(hca, row, store, mail, Request::Command(command))
+        }
     }
 }
 
@@ -59,28 +53,20 @@ pub fn decide_op(
     store: &[u8],
     mail: &[u8],
     command: HcrCommand,
-    found: OpFound,
-) -> Decision
+    found: Option<Op>,
+) -> Result<Decision, Refusal>
     requires { OpenFits hca store.now }
     ensures { (room : List ℕ) → result ≡ decide_op (world hca row store.now room) mail.now command found }
 {
-    match found {
-        OpFound::Served(op) => {
-            if op_checks::bad_system(hca.open, op) {
-                return Decision::Refuse(Refusal::BadSystemState);
-            }
-            if op_checks::is_busy(row, op) {
-                return Decision::Refuse(Refusal::Busy);
-            }
-            let logs = hca.logs;
-            decide_found(
-                hca,
-                row,
-                store,
-                mail,
-                commands::read_command(op, command.op_modifier, command.in_modifier, logs),
-            )
-        }
-        OpFound::NotServed => Decision::Refuse(Refusal::NotServed),
+    let Some(op) = found else {
+        return Err(Refusal::NotServed);
+    };
+    if op_checks::bad_system(hca.open, op) {
+        return Err(Refusal::BadSystemState);
     }
+    if op_checks::is_busy(row, op) {
+        return Err(Refusal::Busy);
+    }
+    let asked = commands::read_command(op, command.op_modifier, command.in_modifier, hca.logs);
+    decide_found(hca, row, store, mail, asked)
 }

@@ -1,5 +1,5 @@
 -- A device with one slot or the header written anew: what it then decodes to.
-use Rattle.std.specs.Prelude.{◌≡◌, refl, Bool, true, false, ◌⊎◌, ℕ, ◌+◌, ◌*◌, ◌^◌, ◌≤◌, ◌<◌, eqb, ltb, length, set}
+use Rattle.std.specs.Prelude.{◌≡◌, refl, Bool, true, false, ◌⊎◌, ℕ, ◌+◌, ◌*◌, ◌^◌, ◌≤◌, ◌<◌, eqb, ltb, length, set, Option, Some, None}
 use Rattle.std.proofs.Common.{sym, ◌∙◌, inl, inr, add-zero, arith, lit<, lit≤, ext_get_or}
 use Rattle.std.proofs.Math.Path.{ap}
 use mathlib.Core.List.{List}
@@ -14,9 +14,8 @@ use Rattle.words.proofs.Parts.{part_agrees, get_or_part, length_part, length_spl
 use Rattle.words.specs.Words.{le32, le_value, le_bytes}
 use Rattle.hcr.specs.Register.{bit}
 use Rattle.burst_table.specs.Bursts.{total_of}
-use Rattle.slot_requests.specs.declared.RequestFound.{RequestFound}
-use Rattle.slot_requests.specs.declared.RequestFound.TheVariants.{Request, Wrong}
 use Rattle.requests.specs.declared.Request.TheVariants as request
+use Rattle.requests.specs.declared.Request.{Request}
 use Rattle.slots.specs.Slots.{Held, slot, advanced_status}
 use Rattle.slots.specs.declared.Slot.{Slot}
 use Rattle.slots.specs.declared.Status.{Status}
@@ -167,32 +166,32 @@ module _ (a b : List ℕ) (la : length a ≡ 32) (lb : length b ≡ 32) (same : 
       )
 
 -- the request of a running slot is the one that its bytes name
-request_of : Status → RequestFound
-request_of Free = Wrong
-request_of (Running m q) = Request q
-request_of (Finished m q) = Wrong
+request_of : Status → Option Request
+request_of Free = None
+request_of (Running m q) = Some q
+request_of (Finished m q) = None
 
-pub running_in : (b : List ℕ) (m : ℕ) (q : Held) → status_of b ≡ Running m q → request_in b ≡ Request q
+pub running_in : (b : List ℕ) (m : ℕ) (q : Held) → status_of b ≡ Running m q → request_in b ≡ Some q
 unfolding status_of request_of
 running_in b m q e = start (eqb (get_or b 0 0) 0) refl
   where
     -- only a request that is read can be running
-    held : (r : RequestFound) (code n : ℕ) → request_of (status_held code n r) ≡ Request q → r ≡ Request q
-    held Wrong code n f = f
-    held (Request p) code n f = first (eqb code 1) refl
+    held : (r : Option Request) (code n : ℕ) → request_of (status_held code n r) ≡ Some q → r ≡ Some q
+    held None code n f = f
+    held (Some p) code n f = first (eqb code 1) refl
       where
-        first : (c : Bool) → eqb code 1 ≡ c → Request p ≡ Request q
+        first : (c : Bool) → eqb code 1 ≡ c → Some p ≡ Some q
         first true g = rw g at f
         first false g = second (eqb code 2) refl
           where
-            never : Wrong ≡ Request q → Request p ≡ Request q
+            never : None ≡ Some q → Some p ≡ Some q
             never z = let y : ◌≡◌ {A = ℕ} 0 1 = cc in absurd (omega arith)
 
-            second : (d : Bool) → eqb code 2 ≡ d → Request p ≡ Request q
+            second : (d : Bool) → eqb code 2 ≡ d → Some p ≡ Some q
             second true i = never (rw (g, i) at f)
             second false i = never (rw (g, i) at f)
 
-    start : (c : Bool) → eqb (get_or b 0 0) 0 ≡ c → request_in b ≡ Request q
+    start : (c : Bool) → eqb (get_or b 0 0) 0 ≡ c → request_in b ≡ Some q
     start true g =
         let z : Free ≡ Running m q = rw g at e in
         let y : ◌≡◌ {A = ℕ} 0 1 = cc in absurd (omega arith)
@@ -201,10 +200,10 @@ running_in b m q e = start (eqb (get_or b 0 0) 0) refl
 -- a running request one burst further, read back from its status and its bursts moved
 advanced_held : (m : ℕ) (q : Held)
     → pick (eqb (status_code (advanced_status (Running m q))) 0) Free
-    (status_held (status_code (advanced_status (Running m q))) (moved_in (advanced_status (Running m q))) (Request q))
+    (status_held (status_code (advanced_status (Running m q))) (moved_in (advanced_status (Running m q))) (Some q))
     ≡ advanced_status (Running m q)
 advanced_held m q =
-    by_pick (λ (s : Status). pick (eqb (status_code s) 0) Free (status_held (status_code s) (moved_in s) (Request q)) ≡ s)
+    by_pick (λ (s : Status). pick (eqb (status_code s) 0) Free (status_held (status_code s) (moved_in s) (Some q)) ≡ s)
     (ltb (m + 1) (total_of q)) (Running (m + 1) q) (Finished (total_of q) q) (λ e. refl) (λ e. refl)
 
 module _ (k : ℕ) (s : Slot) (dev : List ℕ) (eight : k < 8) (sized : length dev ≡ 288) where
@@ -278,9 +277,9 @@ pub row_moved : (k : ℕ) (dev : List ℕ) (m : ℕ) (q : Held) → k < 8 → le
 unfolding slot_at
 row_moved k dev m q h l o e =
     let s : Slot = slot (advanced_status (Running m q)) in
-    let r : request_in (part (slot_place k) 32 dev) ≡ Request q = running_in (part (slot_place k) 32 dev) m q e in
+    let r : request_in (part (slot_place k) 32 dev) ≡ Some q = running_in (part (slot_place k) 32 dev) m q e in
     row_changed (one_moved k s dev h l) o
     ∙ ap (set (row_of dev) k)
     (slot_moved_lem k s dev h l
-    ∙ ap (λ (f : RequestFound). slot (pick (eqb (status_code s.status) 0) Free (status_held (status_code s.status) (moved_in s.status) f))) r
+    ∙ ap (λ (f : Option Request). slot (pick (eqb (status_code s.status) 0) Free (status_held (status_code s.status) (moved_in s.status) f))) r
     ∙ ap slot (advanced_held m q))

@@ -1,5 +1,5 @@
 -- What is encoded decodes to the same.
-use Rattle.std.specs.Prelude.{◌≡◌, refl, Bool, true, false, List, ◌++◌, ℕ, ◌+◌, ◌*◌, ◌/◌, ◌%◌, ◌^◌, ◌<◌, eqb, length}
+use Rattle.std.specs.Prelude.{◌≡◌, refl, Bool, true, false, List, ◌++◌, ℕ, ◌+◌, ◌*◌, ◌/◌, ◌%◌, ◌^◌, ◌<◌, eqb, length, Option, Some, None}
 use Rattle.std.proofs.Common.{◌∙◌, ltb-true, leb-true, lit<}
 use Rattle.std.proofs.Math.Path.{ap}
 use native.Mathlib.Omega.{arith}
@@ -22,13 +22,12 @@ use Rattle.requests.specs.declared.PsnField.TheVariants.{NextSend, LastAcked, Ex
 use Rattle.requests.specs.declared.EngineRequest.{EngineRequest}
 use Rattle.requests.specs.declared.EngineRequest.TheVariants as engine
 use Rattle.requests.specs.declared.Request.TheVariants as request
+use Rattle.requests.specs.declared.Request.{Request}
 use Rattle.commands.specs.Commands.{read_op, read_command}
 use Rattle.engines.specs.Engines.{read_number, read_engine, state_from}
 use Rattle.request_table.specs.Records.{command_record, engine_record, record_of, records_of, all_records, engine_psn_holds, psn_holds, numbers_hold}
 use Rattle.request_codes.specs.Numbers.{command_op, engine_number}
 use Rattle.slot_requests.specs.Requests.{any_index, command_in}
-use Rattle.slot_requests.specs.declared.RequestFound.{RequestFound}
-use Rattle.slot_requests.specs.declared.RequestFound.TheVariants.{Request, Wrong}
 use Rattle.slots.specs.Slots.{Held, slot}
 use Rattle.slots.specs.declared.Slot.{Slot}
 use Rattle.slots.specs.declared.Status.{Status}
@@ -41,9 +40,9 @@ use Rattle.device_bytes.specs.Encoding.{header_bytes, hca_bytes}
 -- ---- the fields
 
 -- the request that a slot's fields give
-abbrev request_from : ℕ → ℕ → ℕ → ℕ → ℕ → ℕ → ℕ → ℕ → RequestFound
+abbrev request_from : ℕ → ℕ → ℕ → ℕ → ℕ → ℕ → ℕ → ℕ → Option Request
 request_from kind modifier op n cq eq psn state =
-    pick (eqb kind 0) (command_in op modifier n) (pick (eqb kind 1) (number_held n cq eq psn state (read_number op)) Wrong)
+    pick (eqb kind 0) (command_in op modifier n) (pick (eqb kind 1) (number_held n cq eq psn state (read_number op)) None)
 
 module _ (code kind m modifier op n cq eq psn state : ℕ) where
   bytes : List ℕ
@@ -79,7 +78,7 @@ module _ (code kind m modifier op n cq eq psn state : ℕ) where
 -- ---- requests
 
 command_in_lem : (c : Command) → is_record any_index (command_record c) ≡ true
-    → command_in (command_op c) (command_modifier c) (number_of (command_record c)) ≡ Request (request.Command c)
+    → command_in (command_op c) (command_modifier c) (number_of (command_record c)) ≡ Some (request.Command c)
 unfolding is_record read_op read_command
 command_in_lem (command.Sw2Hw (owned.Mpt n)) f = rw f
 command_in_lem (command.Sw2Hw (owned.Eq n)) f = rw f
@@ -101,11 +100,11 @@ command_in_lem (command.ModifyQp SqdToRts n) f = rw f
 command_in_lem (command.ModifyQp ToErr n) f = rw f
 command_in_lem (command.ModifyQp ToReset n) f = rw f
 
-abbrev engine_in : EngineRequest → RequestFound
+abbrev engine_in : EngineRequest → Option Request
 engine_in q = number_held (number_of (engine_record q)) (named_cq q) (named_eq q) (psn_in q) (state_in q) (read_number (engine_number q))
 
 engine_in_lem : (q : EngineRequest) → is_record any_index (engine_record q) ≡ true → engine_psn_holds q ≡ true
-    → engine_in q ≡ Request (request.Engine q)
+    → engine_in q ≡ Some (request.Engine q)
 unfolding is_record read_number read_engine state_from
 engine_in_lem (engine.ReadState n) f g = rw f
 engine_in_lem (engine.ReadNext n) f g = rw f
@@ -173,7 +172,7 @@ first_record (engine.ReadAll n) h = both_left (is_record any_index (rec.Qp n)) _
 first_record (engine.Write p s n psn) h = both_left (is_record any_index (rec.Qp n)) _ h
 first_record (engine.ReadJoined n c e) h = both_left (is_record any_index (rec.Qp n)) _ h
 
-pub request_round : (code m : ℕ) (q : Held) → numbers_hold any_index q ≡ true → request_in (request_bytes code m q) ≡ Request q
+pub request_round : (code m : ℕ) (q : Held) → numbers_hold any_index q ≡ true → request_in (request_bytes code m q) ≡ Some q
 unfolding numbers_hold
 request_round code m (request.Command c) h =
     let f : is_record any_index (command_record c) ≡ true = both_left (is_record any_index (command_record c)) true (both_left _ true h) in

@@ -5,20 +5,18 @@
 --           4 to 5 op or request number   8 to 11 index   12 to 15 and 16 to 19 the names of a joined read   20 to 23 PSN   24 state
 -- Any bytes are read. Those that no slot has are read as a slot that no state can have, and those of another length as a row without
 -- slots, so that they get 0x87 and 0x83 by the rules' own tests.
-use Rattle.std.specs.Prelude.{Bool, List, [], ℕ, zero, suc, ◌+◌, ◌*◌, ◌^◌, eqb, ltb, length, get_or, set, replicate}
+use Rattle.std.specs.Prelude.{Bool, List, [], ℕ, zero, suc, ◌+◌, ◌*◌, ◌^◌, eqb, ltb, length, get_or, set, replicate, Option, Some, None}
 use Rattle.words.specs.Choice.{pick}
 use Rattle.words.specs.Parts.{part}
 use Rattle.words.specs.Words.{le32}
 use Rattle.requests.specs.declared.EngineRequest.TheVariants as engine
 use Rattle.requests.specs.declared.Request.TheVariants as request
+use Rattle.requests.specs.declared.Request.{Request}
 use Rattle.engines.specs.Engines.{read_number, read_engine}
-use Rattle.engines.specs.declared.EngineFound.{EngineFound}
-use Rattle.engines.specs.declared.EngineFound.TheVariants as engineFound
-use Rattle.engines.specs.declared.NumberFound.{NumberFound}
-use Rattle.engines.specs.declared.NumberFound.TheVariants as numberFound
+use Rattle.engines.specs.declared.EngineAsked.{EngineAsked}
+use Rattle.engines.specs.declared.EngineNumber.{EngineNumber}
+use Rattle.engines.specs.declared.EngineAsked.TheVariants as asked
 use Rattle.slot_requests.specs.Requests.{any_index, command_in}
-use Rattle.slot_requests.specs.declared.RequestFound.{RequestFound}
-use Rattle.slot_requests.specs.declared.RequestFound.TheVariants.{Request, Wrong}
 use Rattle.slots.specs.Slots.{slot}
 use Rattle.slots.specs.declared.Slot.{Slot}
 use Rattle.slots.specs.declared.Status.{Status}
@@ -36,23 +34,23 @@ slot_place k = 32 + k * 32
 -- ---- the request of a slot, read as its submission reads it; its index is judged by 0x87's own test alone (01, Numbers returned)
 
 -- an engine request as a slot holds it: a joined read has the names that its submission found (02, wish 2)
-abbrev pub engine_held : ℕ → ℕ → EngineFound → RequestFound
-engine_held cq eq (engineFound.OnRecord e) = Request (request.Engine e)
-engine_held cq eq (engineFound.Joined n) = Request (request.Engine (engine.ReadJoined n (record { 0 = cq }) (record { 0 = eq })))
-engine_held cq eq engineFound.Wrong = Wrong
+abbrev pub engine_held : ℕ → ℕ → Option EngineAsked → Option Request
+engine_held cq eq (Some (asked.OnRecord e)) = Some (request.Engine e)
+engine_held cq eq (Some (asked.Joined n)) = Some (request.Engine (engine.ReadJoined n (record { 0 = cq }) (record { 0 = eq })))
+engine_held cq eq None = None
 
-abbrev pub number_held : ℕ → ℕ → ℕ → ℕ → ℕ → NumberFound → RequestFound
-number_held index cq eq psn state (numberFound.Served k) = engine_held cq eq (read_engine any_index k index psn state)
-number_held index cq eq psn state numberFound.NotServed = Wrong
+abbrev pub number_held : ℕ → ℕ → ℕ → ℕ → ℕ → Option EngineNumber → Option Request
+number_held index cq eq psn state (Some k) = engine_held cq eq (read_engine any_index k index psn state)
+number_held index cq eq psn state None = None
 
 abbrev pub op_field : List ℕ → ℕ
 op_field b = get_or b 4 0 + 256 * get_or b 5 0
 
-unfoldable pub request_in : List ℕ → RequestFound
+unfoldable pub request_in : List ℕ → Option Request
 request_in b =
     pick (eqb (get_or b 1 0) 0) (command_in (op_field b) (get_or b 3 0) (le32 8 b))
     (pick (eqb (get_or b 1 0) 1) (number_held (le32 8 b) (le32 12 b) (le32 16 b) (le32 20 b) (get_or b 24 0) (read_number (op_field b)))
-    Wrong)
+    None)
 
 -- ---- a slot
 
@@ -60,9 +58,9 @@ request_in b =
 abbrev pub broken : Status
 broken = Finished 0 (request.Engine (engine.ReadState (record { 0 = 0 })))
 
-abbrev pub status_held : ℕ → ℕ → RequestFound → Status
-status_held code m (Request q) = pick (eqb code 1) (Running m q) (pick (eqb code 2) (Finished m q) broken)
-status_held code m Wrong = broken
+abbrev pub status_held : ℕ → ℕ → Option Request → Status
+status_held code m (Some q) = pick (eqb code 1) (Running m q) (pick (eqb code 2) (Finished m q) broken)
+status_held code m None = broken
 
 -- a free slot is known by its first byte alone
 unfoldable pub status_of : List ℕ → Status

@@ -1,5 +1,5 @@
 -- A request that is accepted is one that a slot's bytes can hold.
-use Rattle.std.specs.Prelude.{◌≡◌, Bool, true, false, not, ℕ, ◌^◌, ◌≤◌, ◌<◌, eqb, ltb, leb, length}
+use Rattle.std.specs.Prelude.{◌≡◌, Bool, true, false, not, ℕ, ◌^◌, ◌≤◌, ◌<◌, eqb, ltb, leb, length, Option, Some, None, Result, Ok, Err}
 use Rattle.std.proofs.Math.Path.{refl}
 use mathlib.Core.List.{List, [], ◌∷◌}
 use Rattle.std.proofs.Common.{lt_of_lt_of_le, lit<, lit≤, pow_mono}
@@ -16,12 +16,6 @@ use Rattle.context.specs.declared.QpNumber.{QpNumber}
 use Rattle.context.specs.declared.Record.{Record}
 use Rattle.context.specs.declared.Record.TheVariants as rec
 use Rattle.numbers.specs.Numbers.{qp_of}
-use Rattle.numbers.specs.declared.CqFound.{CqFound}
-use Rattle.numbers.specs.declared.CqFound.TheVariants as cqFound
-use Rattle.numbers.specs.declared.EqFound.{EqFound}
-use Rattle.numbers.specs.declared.EqFound.TheVariants as eqFound
-use Rattle.numbers.specs.declared.QpFound.{QpFound}
-use Rattle.numbers.specs.declared.QpFound.TheVariants as qpFound
 use Rattle.requests.specs.Psns.{psn_fits}
 use Rattle.requests.specs.declared.Command.{Command}
 use Rattle.requests.specs.declared.EngineRequest.TheVariants as engine
@@ -29,64 +23,57 @@ use Rattle.requests.specs.declared.PsnField.{PsnField}
 use Rattle.requests.specs.declared.Request.{Request}
 use Rattle.requests.specs.declared.Request.TheVariants as request
 use Rattle.commands.specs.Commands.{read_op, read_command}
-use Rattle.commands.specs.declared.CommandFound.{CommandFound}
-use Rattle.commands.specs.declared.CommandFound.TheVariants as found
-use Rattle.commands.specs.declared.OpFound.{OpFound}
-use Rattle.commands.specs.declared.OpFound.TheVariants as opFound
+use Rattle.commands.specs.declared.CommandAsked.{CommandAsked}
+use Rattle.commands.specs.declared.Op.{Op}
+use Rattle.commands.specs.declared.CommandAsked.TheVariants as asked
 use Rattle.engines.specs.Engines.{read_number, state_from, write_found, engine_on, engine_at, read_engine}
-use Rattle.engines.specs.declared.EngineFound.{EngineFound}
-use Rattle.engines.specs.declared.EngineFound.TheVariants as asked
 use Rattle.engines.specs.declared.EngineNumber.{EngineNumber}
 use Rattle.engines.specs.declared.EngineNumber.TheVariants as number
-use Rattle.engines.specs.declared.NumberFound.{NumberFound}
-use Rattle.engines.specs.declared.NumberFound.TheVariants as numberFound
-use Rattle.engines.specs.declared.StateFound.{StateFound}
-use Rattle.engines.specs.declared.StateFound.TheVariants as stateFound
+use Rattle.engines.specs.declared.EngineAsked.{EngineAsked}
 use Rattle.request_table.specs.Records.{records_of, all_records, psn_holds, numbers_hold}
 use Rattle.slot_requests.specs.Requests.{any_index}
 use Rattle.mailboxes.specs.Mailboxes.{need_of}
 use Rattle.contents.specs.Content.{content_holds}
 use Rattle.holds.specs.Holds.{held_against, read_held}
-use Rattle.checks.specs.declared.Verdict.{Verdict}
-use Rattle.checks.specs.declared.Verdict.TheVariants.{Permitted, Denied}
-use Rattle.rows.specs.declared.SlotFound.{SlotFound}
-use Rattle.rows.specs.declared.SlotFound.TheVariants.{At, Nothing}
 use Rattle.hcr.specs.Register.{read_of}
 use Rattle.hcr.specs.declared.HcrCommand.{HcrCommand}
-use Rattle.hcr.specs.declared.ReadAnswer.{ReadAnswer}
-use Rattle.hcr.specs.declared.ReadAnswer.TheVariants as hcr
+use Rattle.hcr.specs.declared.ReadError.{ReadError}
+use Rattle.hcr.specs.declared.ReadError.TheVariants as readError
 use Rattle.context.specs.Init.{init_of}
-use Rattle.context.specs.declared.InitFound.{InitFound}
-use Rattle.context.specs.declared.InitFound.TheVariants as init
-use Rattle.rules.specs.declared.Decision.{Decision}
-use Rattle.rules.specs.declared.Decision.TheVariants as decide
+use Rattle.context.specs.declared.EqNumber.{EqNumber}
+use Rattle.context.specs.declared.InitError.{InitError}
+use Rattle.context.specs.declared.InitError.TheVariants as initError
 use Rattle.rules.specs.declared.Refusal.{Refusal}
 use Rattle.rules.specs.World.{World, bad_lent, bad_state}
 use Rattle.rules.specs.Names.{joins}
 use Rattle.rules.specs.Admission.{decide_place, decide_verdict, decide_request}
 use Rattle.rules.specs.Commands.{bad_system, busy, decide_init, decide_found, decide_op, decide_register, decide_command}
 use Rattle.rules.specs.Engines.{decide_eq, decide_cq, decide_joined, decide_asked, decide_number, decide_engine}
+use Rattle.rules.specs.declared.Decision.{Decision}
+use Rattle.rules.specs.declared.Decision.TheVariants as decide
+use Rattle.checks.specs.declared.Denial.{Denial}
+use Rattle.edges.specs.declared.State.{State}
 
 -- ---- its PSN fits 24 bits
 
 -- of a decision that takes a slot
-pub data PsnFits : Decision → Type 0 where
-  refuses : {c : Refusal} → PsnFits (decide.Refuse c)
-  rests : PsnFits decide.Nothing
-  closes : PsnFits decide.Close
-  opens : {g : Logs} → PsnFits (decide.Open g)
-  takes : {q : Request} {k : ℕ} → psn_holds q ≡ true → PsnFits (decide.Take q k)
+pub data PsnFits : Result Decision Refusal → Type 0 where
+  refuses : {c : Refusal} → PsnFits (Err c)
+  rests : PsnFits (Ok decide.Nothing)
+  closes : PsnFits (Ok decide.Close)
+  opens : {g : Logs} → PsnFits (Ok (decide.Open g))
+  takes : {q : Request} {k : ℕ} → psn_holds q ≡ true → PsnFits (Ok (decide.Take q k))
 
 module _ (w : World) where
-  place_psn : (q : Request) → psn_holds q ≡ true → (f : SlotFound) → PsnFits (decide_place q f)
+  place_psn : (q : Request) → psn_holds q ≡ true → (f : Option ℕ) → PsnFits (decide_place q f)
   unfolding decide_place
-  place_psn q h (At k) = takes h
-  place_psn q h Nothing = refuses
+  place_psn q h (Some k) = takes h
+  place_psn q h None = refuses
 
-  verdict_psn : (q : Request) → psn_holds q ≡ true → (v : Verdict) → PsnFits (decide_verdict w q v)
+  verdict_psn : (q : Request) → psn_holds q ≡ true → (v : Result (Unit {0}) Denial) → PsnFits (decide_verdict w q v)
   unfolding decide_verdict
-  verdict_psn q h Permitted = place_psn q h _
-  verdict_psn q h (Denied d) = refuses
+  verdict_psn q h (Ok tt) = place_psn q h _
+  verdict_psn q h (Err d) = refuses
 
   request_psn : (q : Request) (mail : List ℕ) → psn_holds q ≡ true → PsnFits (decide_request w q mail)
   unfolding decide_request
@@ -96,29 +83,29 @@ module _ (w : World) where
       (λ _. by_pick PsnFits (held_against w.row q) _ _ (λ _. refuses) (λ _. verdict_psn q h _)))
 
   -- a joined read has no PSN
-  eq_psn : (n : QpNumber) (c : CqNumber) (f : EqFound) → PsnFits (decide_eq w n c f)
+  eq_psn : (n : QpNumber) (c : CqNumber) (f : Option EqNumber) → PsnFits (decide_eq w n c f)
   unfolding decide_eq
-  eq_psn n c eqFound.OutOfRange = refuses
-  eq_psn n c (eqFound.Number e) =
+  eq_psn n c None = refuses
+  eq_psn n c (Some e) =
       by_pick PsnFits (read_held w.row (rec.Eq e)) _ _ (λ _. refuses) (λ _. place_psn (joins n c e) refl _)
 
-  cq_psn : (n : QpNumber) (f : CqFound) → PsnFits (decide_cq w n f)
+  cq_psn : (n : QpNumber) (f : Option CqNumber) → PsnFits (decide_cq w n f)
   unfolding decide_cq
-  cq_psn n cqFound.OutOfRange = refuses
-  cq_psn n (cqFound.Number c) = by_pick PsnFits (read_held w.row (rec.Cq c)) _ _ (λ _. refuses) (λ _. eq_psn n c _)
+  cq_psn n None = refuses
+  cq_psn n (Some c) = by_pick PsnFits (read_held w.row (rec.Cq c)) _ _ (λ _. refuses) (λ _. eq_psn n c _)
 
   joined_psn : (n : QpNumber) → PsnFits (decide_joined w n)
   unfolding decide_joined
   joined_psn n = by_pick PsnFits (read_held w.row (rec.Qp n)) _ _ (λ _. refuses) (λ _. cq_psn n _)
 
   -- a write is found only with a PSN that fits
-  abbrev Asks : EngineFound → Type 0
+  abbrev Asks : Option EngineAsked → Type 0
   Asks f = PsnFits (decide_asked w f)
 
-  write_psn : (p : PsnField) (n : QpNumber) (psn : ℕ) → psn_fits psn ≡ true → (s : StateFound) → Asks (write_found p n psn s)
+  write_psn : (p : PsnField) (n : QpNumber) (psn : ℕ) → psn_fits psn ≡ true → (s : Option State) → Asks (write_found p n psn s)
   unfolding decide_asked
-  write_psn p n psn h (stateFound.State s) = request_psn (request.Engine (engine.Write p s n psn)) [] h
-  write_psn p n psn h stateFound.OutOfRange = refuses
+  write_psn p n psn h (Some s) = request_psn (request.Engine (engine.Write p s n psn)) [] h
+  write_psn p n psn h None = refuses
 
   on_psn : (k : EngineNumber) (n : QpNumber) (psn code : ℕ) → Asks (engine_on k n psn code)
   unfolding decide_asked
@@ -127,18 +114,18 @@ module _ (w : World) where
   on_psn number.ReadAll n psn code = request_psn (request.Engine (engine.ReadAll n)) [] refl
   on_psn number.ReadJoined n psn code = joined_psn n
   on_psn (number.Write p) n psn code =
-      by_pick Asks (psn_fits psn) (write_found p n psn (state_from code)) asked.Wrong (λ h. write_psn p n psn h (state_from code)) (λ _. refuses)
+      by_pick Asks (psn_fits psn) (write_found p n psn (state_from code)) None (λ h. write_psn p n psn h (state_from code)) (λ _. refuses)
 
-  asked_psn : (k : EngineNumber) (f : QpFound) (psn code : ℕ) → Asks (engine_at k f psn code)
+  asked_psn : (k : EngineNumber) (f : Option QpNumber) (psn code : ℕ) → Asks (engine_at k f psn code)
   unfolding decide_asked
-  asked_psn k (qpFound.Number n) psn code = on_psn k n psn code
-  asked_psn k qpFound.OutOfRange psn code = refuses
+  asked_psn k (Some n) psn code = on_psn k n psn code
+  asked_psn k None psn code = refuses
 
-  number_psn : (index psn state : ℕ) (f : NumberFound) → PsnFits (decide_number w index psn state f)
+  number_psn : (index psn state : ℕ) (f : Option EngineNumber) → PsnFits (decide_number w index psn state f)
   unfolding decide_number read_engine
-  number_psn index psn state (numberFound.Served k) =
+  number_psn index psn state (Some k) =
       by_pick PsnFits (not w.hca.«open») _ _ (λ _. refuses) (λ _. asked_psn k (qp_of w.hca.logs index) psn state)
-  number_psn index psn state numberFound.NotServed = refuses
+  number_psn index psn state None = refuses
 
   pub engine_psn : (number index psn state : ℕ) → PsnFits (decide_engine w number index psn state)
   unfolding decide_engine
@@ -147,32 +134,32 @@ module _ (w : World) where
       (λ _. by_pick PsnFits (bad_state w) _ _ (λ _. refuses) (λ _. number_psn index psn state _))
 
   -- a command has none
-  init_psn : (f : InitFound) → PsnFits (decide_init f)
+  init_psn : (f : Result Logs InitError) → PsnFits (decide_init f)
   unfolding decide_init
-  init_psn (init.Layout g) = opens
-  init_psn init.ShortMailbox = refuses
-  init_psn init.OutOfRange = refuses
+  init_psn (Ok g) = opens
+  init_psn (Err initError.ShortMailbox) = refuses
+  init_psn (Err initError.OutOfRange) = refuses
 
-  found_psn : (mail : List ℕ) (f : CommandFound) → PsnFits (decide_found w mail f)
+  found_psn : (mail : List ℕ) (f : Option CommandAsked) → PsnFits (decide_found w mail f)
   unfolding decide_found
-  found_psn mail found.InitHca = init_psn _
-  found_psn mail found.CloseHca = closes
-  found_psn mail found.Nop = rests
-  found_psn mail (found.OnRecord c) = request_psn (request.Command c) mail refl
-  found_psn mail found.Wrong = refuses
+  found_psn mail (Some asked.InitHca) = init_psn _
+  found_psn mail (Some asked.CloseHca) = closes
+  found_psn mail (Some asked.Nop) = rests
+  found_psn mail (Some (asked.OnRecord c)) = request_psn (request.Command c) mail refl
+  found_psn mail None = refuses
 
-  op_psn : (mail : List ℕ) (c : HcrCommand) (f : OpFound) → PsnFits (decide_op w mail c f)
+  op_psn : (mail : List ℕ) (c : HcrCommand) (f : Option Op) → PsnFits (decide_op w mail c f)
   unfolding decide_op
-  op_psn mail c opFound.NotServed = refuses
-  op_psn mail c (opFound.Served o) =
+  op_psn mail c None = refuses
+  op_psn mail c (Some o) =
       by_pick PsnFits (bad_system w.hca.«open» o) _ _ (λ _. refuses)
       (λ _. by_pick PsnFits (busy w.row o) _ _ (λ _. refuses) (λ _. found_psn mail _))
 
-  register_psn : (mail : List ℕ) (r : ReadAnswer) → PsnFits (decide_register w mail r)
+  register_psn : (mail : List ℕ) (r : Result HcrCommand ReadError) → PsnFits (decide_register w mail r)
   unfolding decide_register
-  register_psn mail hcr.Short = refuses
-  register_psn mail hcr.Malformed = refuses
-  register_psn mail (hcr.Command c) = by_pick PsnFits c.event _ _ (λ _. refuses) (λ _. op_psn mail c _)
+  register_psn mail (Err readError.Short) = refuses
+  register_psn mail (Err readError.Malformed) = refuses
+  register_psn mail (Ok c) = by_pick PsnFits c.event _ _ (λ _. refuses) (λ _. op_psn mail c _)
 
   pub command_psn : (bytes mail : List ℕ) → PsnFits (decide_command w bytes mail)
   unfolding decide_command

@@ -1,7 +1,7 @@
 -- Whatever bytes a call was lent, the bytes that it leaves decode to the world that the rules leave.
 use Rattle.std.proofs.Math.Path.{◌≡◌, refl, ap}
 use Rattle.std.proofs.Common.{sym, ◌∙◌, lit<, lit≤}
-use Rattle.std.specs.Prelude.{Bool, not, ℕ, ◌^◌, ◌≤◌, ◌<◌, ltb, replicate}
+use Rattle.std.specs.Prelude.{Bool, not, ℕ, ◌^◌, ◌≤◌, ◌<◌, ltb, replicate, Result, Ok, Err}
 use Rattle.std.proofs.Math.Bool.{true, false}
 use Rattle.std.proofs.lemmas.Bool.{false≢true}
 use mathlib.Core.List.{List, []}
@@ -28,8 +28,6 @@ use Rattle.rows.proofs.Laws.{lowest_free_is}
 use Rattle.possible.specs.Possible.{impossible}
 use Rattle.possible.proofs.Laws.{open_fits}
 use Rattle.possible.specs.declared.Hca.{Hca}
-use Rattle.rules.specs.declared.Decision.{Decision}
-use Rattle.rules.specs.declared.Decision.TheVariants as decide
 use Rattle.rules.specs.declared.Refusal.{Refusal}
 use Rattle.rules.specs.declared.Refusal.TheVariants as cause
 use Rattle.rules.specs.World.{World, world, shut, status_at, bad_row, bad_store, bad_lent, bad_state}
@@ -46,6 +44,8 @@ use Rattle.rules.specs.Laws.Decided as decided
 use Rattle.rules.specs.Laws.Outcomes.{Stepping, Collecting}
 use Rattle.rules.proofs.Laws.Outcomes.{step_is, collect_is, reset_is}
 use Rattle.rules.specs.Calls.{Asked}
+use Rattle.rules.specs.declared.Decision.{Decision}
+use Rattle.rules.specs.declared.Decision.TheVariants as decide
 use Rattle.device_bytes.specs.Decoding.{slot_place, broken, status_of, slot_at, slots_of, row_of, hca_of}
 use Rattle.device_bytes.specs.Encoding.{header_bytes, hca_bytes, row_bytes, device_bytes, put_slot, put_moved, put_header}
 use Rattle.device_bytes.proofs.RoundTrip.{slot_fits, header_round}
@@ -213,10 +213,10 @@ module _ (dev store room mail : List ℕ) (bytes : AreBytes dev) (small : length
       ∙ ap (λ (x : Hca). world x (row_of (put_slot k s dev)) store rm) (hca_kept (one_put k s dev h' l))
       ∙ ap (λ (x : List Slot). world (hca_of dev) x store rm) (row_put k s dev h' l o fits)
 
-  pub psn_of : {q : Request} {k : ℕ} → PsnFits (decide.Take q k) → psn_holds q ≡ true
+  pub psn_of : {q : Request} {k : ℕ} → PsnFits (Ok (decide.Take q k)) → psn_holds q ≡ true
   psn_of (takes h) = h
 
-  decides : {a : Asked} {d : Decision} → bad_lent (world_of dev store room) ≡ false → bad_state (world_of dev store room) ≡ false
+  decides : {a : Asked} {d : Result Decision Refusal} → bad_lent (world_of dev store room) ≡ false → bad_state (world_of dev store room) ≡ false
       → Decided (world_of dev store room) mail a d → PsnFits d → SubmitDecodes (applied (world_of dev store room) mail d)
   unfolding submit_left world_taken world_closed world_opened
   decides e f (plain c g) p = refl
@@ -227,7 +227,7 @@ module _ (dev store room mail : List ℕ) (bytes : AreBytes dev) (small : length
   decides e f decided.rests p = headed e f (hca_of dev) (length_small dev (lent_device dev store room e) bytes) store
   decides e f (decided.opens {g = g} n o i) p = headed e f _ small _
 
-  abbrev Applied : Decision → Type 0
+  abbrev Applied : Result Decision Refusal → Type 0
   Applied d = SubmitDecodes (applied (world_of dev store room) mail d)
 
   pub command_decodes : (register : List ℕ)
@@ -236,8 +236,8 @@ module _ (dev store room mail : List ℕ) (bytes : AreBytes dev) (small : length
       ≡ (submit_command (world_of dev store room) register mail).world
   unfolding command_call submit_command submit_left decide_command
   command_decodes register =
-      by_pick Applied (either (bad_lent w) (ltb (length register) 28)) (decide.Refuse cause.BadLength) _ (λ _. refl)
-      (λ g. by_pick Applied (bad_state w) (decide.Refuse cause.Impossible) _ (λ _. refl)
+      by_pick Applied (either (bad_lent w) (ltb (length register) 28)) (Err cause.BadLength) _ (λ _. refl)
+      (λ g. by_pick Applied (bad_state w) (Err cause.Impossible) _ (λ _. refl)
       (λ f. decides (neither_left (bad_lent w) _ g) f
       (rw (g, f) at (command_decided w register mail)) (rw (g, f) at (command_psn w register mail))))
     where
@@ -251,8 +251,8 @@ pub engine_decodes : (dev store room : List ℕ) → AreBytes dev → length sto
     ≡ (submit_engine (world_of dev store room) number index psn state).world
 unfolding engine_call submit_engine submit_left decide_engine
 engine_decodes dev store room bytes small number index psn state =
-    by_pick (Applied dev store room [] bytes small) (bad_lent w) (decide.Refuse cause.BadLength) _ (λ _. refl)
-    (λ e. by_pick (Applied dev store room [] bytes small) (bad_state w) (decide.Refuse cause.Impossible) _ (λ _. refl)
+    by_pick (Applied dev store room [] bytes small) (bad_lent w) (Err cause.BadLength) _ (λ _. refl)
+    (λ e. by_pick (Applied dev store room [] bytes small) (bad_state w) (Err cause.Impossible) _ (λ _. refl)
     (λ f. decides dev store room [] bytes small e f
     (rw (e, f) at (engine_decided w number index psn state)) (rw (e, f) at (engine_psn w number index psn state))))
   where

@@ -1,5 +1,5 @@
 -- Laws about the definitions of specs/Stays.antt.
-use Rattle.std.specs.Prelude.{◌≡◌, true, false, ℕ, ◌^◌, ◌<◌, ltb, length, set, replicate}
+use Rattle.std.specs.Prelude.{◌≡◌, true, false, ℕ, ◌^◌, ◌<◌, ltb, length, set, replicate, Result, Err}
 use Rattle.std.proofs.Math.Path.{refl}
 use Rattle.std.proofs.Common.{sym, ◌∙◌, ap, arith, get_or-set_same}
 use mathlib.Core.List.{List, []}
@@ -17,8 +17,6 @@ use Rattle.slots.specs.declared.Status.TheVariants.{Free, Running, Finished}
 use Rattle.rows.specs.Rows.{empty_row}
 use Rattle.rows.proofs.Laws.{lowest_free_is}
 use Rattle.possible.specs.declared.Hca.{Hca}
-use Rattle.rules.specs.declared.Decision.{Decision}
-use Rattle.rules.specs.declared.Decision.TheVariants as decide
 use Rattle.rules.specs.declared.Refusal.TheVariants as cause
 use Rattle.rules.specs.World.{World, shut, status_at, bad_lent, bad_state}
 use Rattle.rules.specs.Admission.{applied, world_opened, world_closed, world_taken}
@@ -34,6 +32,8 @@ use Rattle.rules.specs.Laws.Decided as decided
 use Rattle.rules.specs.Laws.Outcomes.{Stepping, Collecting}
 use Rattle.rules.proofs.Laws.Outcomes.{step_is, collect_is, reset_is}
 use Rattle.rules.specs.Calls.{Asked}
+use Rattle.rules.specs.declared.Decision.{Decision}
+use Rattle.rules.specs.declared.Refusal.{Refusal}
 use Rattle.device_bytes.specs.Decoding.{status_of, slot_at, slots_of, row_of, hca_of}
 use Rattle.device_bytes.specs.Encoding.{header_bytes, row_bytes, device_bytes, put_slot, put_moved, put_header}
 use Rattle.device_bytes.proofs.Headers.{length_small}
@@ -130,7 +130,7 @@ module _ (dev store room : List ℕ) (whole : Written dev) where
     -- ---- submissions
 
     module _ (mail : List ℕ) (small : length store < 2 ^ 64) where
-      abbrev Stay : Decision → Type 0
+      abbrev Stay : Result Decision Refusal → Type 0
       Stay d = Written (submit_left dev (applied (world_of dev store room) mail d)).device
 
       taken : {q : Request} {k : ℕ} → Judging (world_of dev store room) q mail → psn_holds q ≡ true → k < length (row_of dev)
@@ -150,7 +150,7 @@ module _ (dev store room : List ℕ) (whole : Written dev) where
           stays (ap (put_header h) whole ∙ header_stays (hca_of dev) h (row_of dev))
           (ap (λ (x : World). x.hca) left) (ap (λ (x : World). x.row) left)
 
-      decision_stays : {a : Asked} {d : Decision} → bad_lent (world_of dev store room) ≡ false → bad_state (world_of dev store room) ≡ false
+      decision_stays : {a : Asked} {d : Result Decision Refusal} → bad_lent (world_of dev store room) ≡ false → bad_state (world_of dev store room) ≡ false
           → Decided (world_of dev store room) mail a d → PsnFits d → Stay d
       unfolding submit_left world_taken world_closed world_opened
       decision_stays e f (plain c g) p = whole
@@ -165,8 +165,8 @@ module _ (dev store room : List ℕ) (whole : Written dev) where
       pub command_stays : (register : List ℕ) → Written (command_call dev store room register mail).device
       unfolding command_call submit_command submit_left decide_command
       command_stays register =
-          by_pick Stay (either (bad_lent w) (ltb (length register) 28)) (decide.Refuse cause.BadLength) _ (λ _. whole)
-          (λ g. by_pick Stay (bad_state w) (decide.Refuse cause.Impossible) _ (λ _. whole)
+          by_pick Stay (either (bad_lent w) (ltb (length register) 28)) (Err cause.BadLength) _ (λ _. whole)
+          (λ g. by_pick Stay (bad_state w) (Err cause.Impossible) _ (λ _. whole)
           (λ f. decision_stays (neither_left (bad_lent w) _ g) f
           (rw (g, f) at (command_decided w register mail)) (rw (g, f) at (command_psn w register mail))))
         where
@@ -177,8 +177,8 @@ module _ (dev store room : List ℕ) (whole : Written dev) where
         → Written (engine_call dev store room number index psn state).device
     unfolding engine_call submit_engine submit_left decide_engine
     engine_stays small number index psn state =
-        by_pick (Stay [] small) (bad_lent w) (decide.Refuse cause.BadLength) _ (λ _. whole)
-        (λ e. by_pick (Stay [] small) (bad_state w) (decide.Refuse cause.Impossible) _ (λ _. whole)
+        by_pick (Stay [] small) (bad_lent w) (Err cause.BadLength) _ (λ _. whole)
+        (λ e. by_pick (Stay [] small) (bad_state w) (Err cause.Impossible) _ (λ _. whole)
         (λ f. decision_stays [] small e f
         (rw (e, f) at (engine_decided w number index psn state)) (rw (e, f) at (engine_psn w number index psn state))))
       where

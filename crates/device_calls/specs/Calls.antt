@@ -1,7 +1,7 @@
 -- THE EXPORTED CALLS on bytes: the device is decoded, the rules' call is made, and what it changed of state and row is written back:
 -- the header, or the one slot. Every other byte of the device stays; a refusal leaves all of it.
 -- A call answers with one number of 32 bits: 01's number in the low byte and, of an accepted call, its value above it.
-use Rattle.std.specs.Prelude.{List, ℕ, ◌+◌, ◌*◌, get_or}
+use Rattle.std.specs.Prelude.{List, ℕ, ◌+◌, ◌*◌, get_or, Result, Ok, Err}
 use Rattle.slots.specs.Slots.{slot}
 use Rattle.slots.specs.declared.Slot.{Slot}
 use Rattle.slots.specs.declared.Status.TheVariants.{Free}
@@ -13,14 +13,9 @@ use Rattle.rules.specs.Engines.{submit_engine}
 use Rattle.rules.specs.Steps.{Stepped, step_of}
 use Rattle.rules.specs.Collections.{Collected, collect_of}
 use Rattle.rules.specs.Resets.{Reset, reset_of}
-use Rattle.rules.specs.declared.SubmitAnswer.{SubmitAnswer}
-use Rattle.rules.specs.declared.SubmitAnswer.TheVariants as submit
-use Rattle.rules.specs.declared.StepAnswer.{StepAnswer}
-use Rattle.rules.specs.declared.StepAnswer.TheVariants as step
-use Rattle.rules.specs.declared.CollectAnswer.{CollectAnswer}
-use Rattle.rules.specs.declared.CollectAnswer.TheVariants as collect
-use Rattle.rules.specs.declared.ResetAnswer.{ResetAnswer}
-use Rattle.rules.specs.declared.ResetAnswer.TheVariants as reset
+use Rattle.rules.specs.declared.Refusal.{Refusal}
+use Rattle.rules.specs.declared.Submission.{Submission}
+use Rattle.rules.specs.declared.Submission.TheVariants as submit
 use Rattle.device_bytes.specs.Decoding.{hca_of, row_of}
 use Rattle.device_bytes.specs.Encoding.{put_slot, put_moved, put_header, device_bytes}
 
@@ -45,15 +40,15 @@ left a d s r = record { answer = a; device = d; store = s; room = r }
 -- ---- submissions
 
 -- A submission that takes a slot gives its number plus one, so that 0 says that none was taken.
-abbrev pub submit_code : SubmitAnswer → ℕ
-submit_code submit.Done = 0
-submit_code (submit.Accepted k) = 256 * (k + 1)
-submit_code (submit.Refused c) = refusal_number c
+abbrev pub submit_code : Result Submission Refusal → ℕ
+submit_code (Ok submit.Done) = 0
+submit_code (Ok (submit.Accepted k)) = 256 * (k + 1)
+submit_code (Err c) = refusal_number c
 
-abbrev pub submit_device : List ℕ → SubmitAnswer → World → List ℕ
-submit_device dev submit.Done w = put_header w.hca dev
-submit_device dev (submit.Accepted k) w = put_slot k (slot_in w.row k) dev
-submit_device dev (submit.Refused c) w = dev
+abbrev pub submit_device : List ℕ → Result Submission Refusal → World → List ℕ
+submit_device dev (Ok submit.Done) w = put_header w.hca dev
+submit_device dev (Ok (submit.Accepted k)) w = put_slot k (slot_in w.row k) dev
+submit_device dev (Err c) w = dev
 
 unfoldable pub submit_left : List ℕ → Submitted → Left
 submit_left dev x = left (submit_code x.answer) (submit_device dev x.answer x.world) x.world.memory.store x.world.room
@@ -67,14 +62,14 @@ engine_call dev store room number index psn state = submit_left dev (submit_engi
 -- ---- a step
 
 -- A step gives the bursts still to move.
-abbrev pub step_code : StepAnswer → ℕ
-step_code (step.Left n) = 256 * n
-step_code (step.Refused c) = refusal_number c
+abbrev pub step_code : Result ℕ Refusal → ℕ
+step_code (Ok n) = 256 * n
+step_code (Err c) = refusal_number c
 
 -- It changes the status and the bursts moved of its slot alone.
-abbrev pub step_device : List ℕ → ℕ → StepAnswer → World → List ℕ
-step_device dev k (step.Left n) w = put_moved k (slot_in w.row k) dev
-step_device dev k (step.Refused c) w = dev
+abbrev pub step_device : List ℕ → ℕ → Result ℕ Refusal → World → List ℕ
+step_device dev k (Ok n) w = put_moved k (slot_in w.row k) dev
+step_device dev k (Err c) w = dev
 
 unfoldable pub step_left : List ℕ → ℕ → Stepped → Left
 step_left dev k x = left (step_code x.answer) (step_device dev k x.answer x.world) x.world.memory.store x.world.room
@@ -94,13 +89,13 @@ abbrev pub taken : ℕ → List ℕ → List ℕ → Taken
 taken a d out = record { answer = a; device = d; out = out }
 
 -- A collection gives the bytes written.
-abbrev pub collect_code : CollectAnswer → ℕ
-collect_code (collect.Collected n) = 256 * n
-collect_code (collect.Refused c) = refusal_number c
+abbrev pub collect_code : Result ℕ Refusal → ℕ
+collect_code (Ok n) = 256 * n
+collect_code (Err c) = refusal_number c
 
-abbrev pub collect_device : List ℕ → ℕ → CollectAnswer → World → List ℕ
-collect_device dev k (collect.Collected n) w = put_slot k (slot_in w.row k) dev
-collect_device dev k (collect.Refused c) w = dev
+abbrev pub collect_device : List ℕ → ℕ → Result ℕ Refusal → World → List ℕ
+collect_device dev k (Ok n) w = put_slot k (slot_in w.row k) dev
+collect_device dev k (Err c) w = dev
 
 unfoldable pub collect_left : List ℕ → ℕ → Collected → Taken
 collect_left dev k x = taken (collect_code x.answer) (collect_device dev k x.answer x.world) x.out
@@ -119,9 +114,9 @@ abbrev pub emptied : ℕ → List ℕ → Emptied
 emptied a d = record { answer = a; device = d }
 
 -- A reset changes every slot and the header: it writes all of the device.
-abbrev pub reset_device : List ℕ → ResetAnswer → World → List ℕ
-reset_device dev reset.Done w = device_bytes w.hca w.row
-reset_device dev (reset.Refused c) w = dev
+abbrev pub reset_device : List ℕ → Result (Unit {0}) Refusal → World → List ℕ
+reset_device dev (Ok tt) w = device_bytes w.hca w.row
+reset_device dev (Err c) w = dev
 
 unfoldable pub reset_left : List ℕ → Reset → Emptied
 reset_left dev x = emptied (reset_number x.answer) (reset_device dev x.answer x.world)

@@ -1,5 +1,5 @@
 -- A collection from a row by value, as its tests find it: what is handed back makes the collection, and the slot that was looked up.
-use Rattle.std.specs.Prelude.{◌≡◌, Bool, false, List, ℕ, ◌≤◌, ◌<◌, length, get_or, set}
+use Rattle.std.specs.Prelude.{◌≡◌, Bool, false, List, ℕ, ◌≤◌, ◌<◌, length, get_or, set, Ok}
 use Rattle.std.proofs.Common.{◌∙◌, ap}
 use Rattle.words.specs.Parts.{splice}
 use Rattle.requests.specs.declared.Request.{Request}
@@ -13,7 +13,6 @@ use Rattle.possible.specs.Possible.{impossible}
 use Rattle.possible.specs.declared.Hca.{Hca}
 use Rattle.rules.specs.declared.Refusal.{Refusal}
 use Rattle.rules.specs.declared.Refusal.TheVariants as cause
-use Rattle.rules.specs.declared.CollectAnswer.TheVariants as collect
 use Rattle.rules.specs.World.{world}
 use Rattle.rules.specs.Collections.{Collected as After, collected, collect_refused, collect_on, collect_of}
 use Rattle.rules.proofs.Laws.Lent.{lent_sized}
@@ -21,7 +20,7 @@ use Rattle.lengths.specs.Lengths.{lengths_wrong}
 use Rattle.lengths.proofs.Lengths.{lent_told, passing}
 use Rattle.handed_back.specs.Handed.{collect_handed, collect_refusal}
 use Rattle.handed_back.proofs.Handed.{collect_refusal_lem}
-use Rattle.handed_back.specs.declared.Collected.{Collected}
+use Rattle.handed_back.specs.declared.HandedBack.{HandedBack}
 use Rattle.answering.specs.Answered.{Answerable}
 use Rattle.answering.specs.Collections as made
 
@@ -39,18 +38,18 @@ module _ {row : List Slot} {room : List ℕ} {k : ℕ} {s : Slot} (found : Looke
   answerable done out size n l = made.answerable row found.rowed found.roomed found.is done out size n l
 
   module _ (h : Hca) (store out : List ℕ) where
-    pub on_free : s.status ≡ Free → (r : Collected) → r ≡ collect_refusal row cause.NoRequest
+    pub on_free : s.status ≡ Free → (r : HandedBack ℕ) → r ≡ collect_refusal row cause.NoRequest
         → collect_handed h row store room out r ≡ collect_on (world h row store room) k out s.status
     on_free e r f =
         collect_refusal_lem h row store room out cause.NoRequest r f ∙ made.on_free (world h row store room) k out s.status e
 
-    pub on_running : {m : ℕ} {q : Request} → s.status ≡ Running m q → (r : Collected) → r ≡ collect_refusal row cause.StillRunning
+    pub on_running : {m : ℕ} {q : Request} → s.status ≡ Running m q → (r : HandedBack ℕ) → r ≡ collect_refusal row cause.StillRunning
         → collect_handed h row store room out r ≡ collect_on (world h row store room) k out s.status
     on_running e r f =
         collect_refusal_lem h row store room out cause.StillRunning r f ∙ made.on_running (world h row store room) k out s.status e
 
     module _ {m : ℕ} {q : Request} (done : s.status ≡ Finished m q) (size : ℕ) (size_is : size ≡ answer_size q) where
-      pub on_short : length out < size → (r : Collected) → r ≡ collect_refusal row cause.ShortBuffer
+      pub on_short : length out < size → (r : HandedBack ℕ) → r ≡ collect_refusal row cause.ShortBuffer
           → collect_handed h row store room out r ≡ collect_on (world h row store room) k out s.status
       on_short l r f =
           collect_refusal_lem h row store room out cause.ShortBuffer r f
@@ -58,7 +57,7 @@ module _ {row : List Slot} {room : List ℕ} {k : ℕ} {s : Slot} (found : Looke
 
       pub on_collected : size ≤ length out → (written : List ℕ) → written ≡ splice 0 (answer_of q (room_of k room)) out
           → (f : Slot) → f ≡ freed s
-          → collected (collect.Collected size) (world h (set row k f) store room) written
+          → collected (Ok size) (world h (set row k f) store room) written
           ≡ collect_on (world h row store room) k out s.status
       on_collected l written e f g =
           made.on_collected (world h row store room) k out s.status done size size_is l written e f (g ∙ ap freed found.is)
@@ -66,7 +65,7 @@ module _ {row : List Slot} {room : List ℕ} {k : ℕ} {s : Slot} (found : Looke
 -- ---- the first tests, as the calls answered them
 
 module _ (h : Hca) (row : List Slot) (store room out : List ℕ) where
-  pub collect_refused_lem : (c : Refusal) (r : Collected) (y : After) → r ≡ collect_refusal row c
+  pub collect_refused_lem : (c : Refusal) (r : HandedBack ℕ) (y : After) → r ≡ collect_refusal row c
       → collect_refused (world h row store room) out c ≡ y → collect_handed h row store room out r ≡ y
   collect_refused_lem c r y e f = collect_refusal_lem h row store room out c r e ∙ f
 

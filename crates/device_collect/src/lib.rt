@@ -8,24 +8,19 @@ ghost use Rattle.rules.specs.World.{world};
 ghost use Rattle.rules.specs.Collections.{collect_on, collect_of};
 ghost use Rattle.device_collect.specs.Collections.{LookedUp};
 
-use handed_back::Collected;
+use handed_back::{HandedBack, refused};
 use possible::Hca;
-use rules::{CollectAnswer, Refusal};
+use rules::Refusal;
 use slots::{Slot, Status};
 
-// No slot changes.
-fn refused(row: [Slot; 8], cause: Refusal) -> Collected
-    ensures { result ≡ collect_refusal row cause }
-{
-    Collected {
-        answer: CollectAnswer::Refused(cause),
-        at: 0,
-        slot: row_slots::slot_at(row, 0),
-    }
-}
-
 // Collects slot k, which was looked up.
-fn collect_slot(row: [Slot; 8], room: &[u8], k: usize, slot: Slot, out: &mut [u8]) -> Collected
+fn collect_slot(
+    row: [Slot; 8],
+    room: &[u8],
+    k: usize,
+    slot: Slot,
+    out: &mut [u8],
+) -> HandedBack<usize>
     requires { LookedUp row room.now k slot }
     ensures { (h : Hca) (store : List ℕ) → collect_handed h row store room.now out.new result
         ≡ collect_on (world h row store room.now) k out.old slot.status }
@@ -41,8 +36,8 @@ fn collect_slot(row: [Slot; 8], room: &[u8], k: usize, slot: Slot, out: &mut [u8
             }
             answering::write_answer(room, k, request, out);
             let freed = slot.free();
-            Collected {
-                answer: CollectAnswer::Collected(size),
+            HandedBack {
+                answer: Ok(size),
                 at: k,
                 slot: freed,
             }
@@ -58,7 +53,7 @@ pub fn collect(
     room: &[u8],
     k: usize,
     out: &mut [u8],
-) -> Collected
+) -> HandedBack<usize>
     ensures { collect_handed hca row store.now room.now out.new result
         ≡ collect_of (world hca row store.now room.now) k out.old }
 {

@@ -37,6 +37,7 @@ pub fn read_row(dev: &[u8]) -> [Slot; 8]
     row
 }
 
+// `usize` has no `From<u32>`.
 fn wide64(x: u32) -> usize
     ensures { (result ≡ x) × (result < 2 ^ 32) }
 {

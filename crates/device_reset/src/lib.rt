@@ -9,7 +9,7 @@ ghost use Rattle.rules.specs.Resets.{reset_of};
 use burst_table::ROOM;
 use handed_back::WasReset;
 use possible::Hca;
-use rules::{Refusal, ResetAnswer};
+use rules::Refusal;
 use slots::Slot;
 
 // Empties all slots and closes.
@@ -19,7 +19,7 @@ pub fn reset(hca: Hca, row: [Slot; 8], store: &[u8], room: &[u8]) -> WasReset
 {
     if room.len() < ROOM {
         return WasReset {
-            answer: ResetAnswer::Refused(Refusal::BadLength),
+            answer: Err(Refusal::BadLength),
             hca: hca,
             row: row,
         };
@@ -27,7 +27,7 @@ pub fn reset(hca: Hca, row: [Slot; 8], store: &[u8], room: &[u8]) -> WasReset
     let logs = hca.logs;
     let empty = rows::empty_row();
     WasReset {
-        answer: ResetAnswer::Done,
+        answer: Ok(()),
         hca: Hca {
             open: false,
             logs: logs,

@@ -1,6 +1,6 @@
 -- Which slots a scan for a hold passes over by their bytes: those that do not run, and those whose index is another than the record's,
 -- but for a joined read, which holds records that its index does not name (02, wish 2).
-use Rattle.std.specs.Prelude.{◌≡◌, Bool, true, false, eqb, length, get_or}
+use Rattle.std.specs.Prelude.{◌≡◌, Bool, true, false, eqb, length, get_or, Option, Some, None}
 use Rattle.std.proofs.Math.Path.{refl, sym}
 use Rattle.std.proofs.Common.{◌∙◌, ap, true≢false, add-zero, arith, lit<, lit≤}
 use mathlib.Core.List.{List, [], ◌∷◌}
@@ -18,30 +18,23 @@ use Rattle.context.specs.declared.Record.{Record}
 use Rattle.context.specs.declared.Record.TheVariants as rec
 use Rattle.commands.specs.Commands.{read_op, command_on, command_right, owned_at}
 use Rattle.commands.proofs.Reading.{command_read}
-use Rattle.commands.specs.declared.CommandFound.{CommandFound}
-use Rattle.commands.specs.declared.CommandFound.TheVariants as commandFound
 use Rattle.commands.specs.declared.Op.{Op}
 use Rattle.commands.specs.declared.Op.TheVariants as op
-use Rattle.commands.specs.declared.OpFound.{OpFound}
-use Rattle.commands.specs.declared.OpFound.TheVariants as opFound
 use Rattle.commands.specs.declared.Table.{Table}
 use Rattle.commands.specs.declared.Table.TheVariants as table
+use Rattle.commands.specs.declared.CommandAsked.{CommandAsked}
 use Rattle.engines.specs.Engines.{read_number, engine_right, request_on}
 use Rattle.engines.proofs.Reading.{engine_read}
-use Rattle.engines.specs.declared.EngineFound.{EngineFound}
-use Rattle.engines.specs.declared.EngineFound.TheVariants as engineFound
 use Rattle.engines.specs.declared.EngineNumber.{EngineNumber}
 use Rattle.engines.specs.declared.EngineNumber.TheVariants as number
-use Rattle.engines.specs.declared.NumberFound.{NumberFound}
-use Rattle.engines.specs.declared.NumberFound.TheVariants as numberFound
+use Rattle.engines.specs.declared.EngineAsked.{EngineAsked}
 use Rattle.request_table.specs.Records.{owned_record, records_of, one_of}
 use Rattle.slot_requests.specs.Requests.{any_index, on_record, with_op}
-use Rattle.slot_requests.specs.declared.RequestFound.{RequestFound}
-use Rattle.slot_requests.specs.declared.RequestFound.TheVariants.{Request, Wrong}
 use Rattle.slots.specs.declared.Status.{Status}
 use Rattle.slots.specs.declared.Status.TheVariants.{Free, Running, Finished}
 use Rattle.holds.specs.Holds.{clash_records, clash_status, clash_slot}
 use Rattle.device_bytes.specs.Decoding.{slot_place, engine_held, number_held, op_field, request_in, broken, status_held, status_of, slot_at}
+use Rattle.requests.specs.declared.Request.{Request}
 
 -- slot k may hold a record with this number: it runs, and has that index or may be a joined read, whose number is 7
 unfoldable pub may_hold : ℕ → ℕ → List ℕ → Bool
@@ -63,18 +56,18 @@ module _ (n k : ℕ) (dev : List ℕ) (x : ℕ) (running : get_or dev (slot_plac
 -- ---- the request of a slot
 
 -- X is none of its records
-abbrev Apart : Record → RequestFound → Type 0
-Apart X (Request q) = one_of (records_of q) X ≡ false
-Apart X Wrong = Unit {0}
+abbrev Apart : Record → Option Request → Type 0
+Apart X (Some q) = one_of (records_of q) X ≡ false
+Apart X None = Unit {0}
 
 -- a number that is not the joined read's
-abbrev Plain : NumberFound → Type 0
-Plain (numberFound.Served number.ReadState) = Unit {0}
-Plain (numberFound.Served number.ReadNext) = Unit {0}
-Plain (numberFound.Served number.ReadAll) = Unit {0}
-Plain (numberFound.Served (number.Write p)) = Unit {0}
-Plain (numberFound.Served number.ReadJoined) = ⊥
-Plain numberFound.NotServed = Unit {0}
+abbrev Plain : Option EngineNumber → Type 0
+Plain (Some number.ReadState) = Unit {0}
+Plain (Some number.ReadNext) = Unit {0}
+Plain (Some number.ReadAll) = Unit {0}
+Plain (Some (number.Write p)) = Unit {0}
+Plain (Some number.ReadJoined) = ⊥
+Plain None = Unit {0}
 
 number_plain : (n : ℕ) → ¬ (n ≡ 7) → Plain (read_number n)
 unfolding read_number
@@ -109,14 +102,14 @@ module _ (X : Record) (n : ℕ) (other : ¬ (n ≡ number_of X)) where
   on_apart op.QueryQp = one_apart (rec.Qp (record { 0 = n })) refl
   on_apart (op.ModifyQp e) = one_apart (rec.Qp (record { 0 = n })) refl
 
-  command_apart : (f : OpFound) (m : ℕ) → Apart X (with_op f m n)
-  command_apart (opFound.Served o) m =
+  command_apart : (f : Option Op) (m : ℕ) → Apart X (with_op f m n)
+  command_apart (Some o) m =
       rw (command_read any_index o m n)
-      (by_pick (λ (f : CommandFound). Apart X (on_record f)) (command_right any_index o m n) (command_on o n) commandFound.Wrong
+      (by_pick (λ (f : Option CommandAsked). Apart X (on_record f)) (command_right any_index o m n) (command_on o n) None
       (λ _. on_apart o) (λ _. tt))
-  command_apart opFound.NotServed m = tt
+  command_apart None m = tt
 
-  asked_apart : (k : EngineNumber) (cq eq psn state : ℕ) → Plain (numberFound.Served k)
+  asked_apart : (k : EngineNumber) (cq eq psn state : ℕ) → Plain (Some k)
       → Apart X (engine_held cq eq (request_on k n psn state))
   asked_apart number.ReadState cq eq psn state p = one_apart (rec.Qp (record { 0 = n })) refl
   asked_apart number.ReadNext cq eq psn state p = one_apart (rec.Qp (record { 0 = n })) refl
@@ -124,18 +117,18 @@ module _ (X : Record) (n : ℕ) (other : ¬ (n ≡ number_of X)) where
   asked_apart (number.Write f) cq eq psn state p = one_apart (rec.Qp (record { 0 = n })) refl
   asked_apart number.ReadJoined cq eq psn state p = absurd p
 
-  engine_apart : (f : NumberFound) (cq eq psn state : ℕ) → Plain f → Apart X (number_held n cq eq psn state f)
-  engine_apart (numberFound.Served k) cq eq psn state p =
+  engine_apart : (f : Option EngineNumber) (cq eq psn state : ℕ) → Plain f → Apart X (number_held n cq eq psn state f)
+  engine_apart (Some k) cq eq psn state p =
       rw (engine_read any_index k n psn state)
-      (by_pick (λ (f : EngineFound). Apart X (engine_held cq eq f)) (engine_right any_index k n psn state) (request_on k n psn state)
-      engineFound.Wrong (λ _. asked_apart k cq eq psn state p) (λ _. tt))
-  engine_apart numberFound.NotServed cq eq psn state p = tt
+      (by_pick (λ (f : Option EngineAsked). Apart X (engine_held cq eq f)) (engine_right any_index k n psn state) (request_on k n psn state)
+      None (λ _. asked_apart k cq eq psn state p) (λ _. tt))
+  engine_apart None cq eq psn state p = tt
 
 request_apart : (X : Record) (b : List ℕ) → ¬ (le32 8 b ≡ number_of X) → ¬ (get_or b 4 0 ≡ 7) → Apart X (request_in b)
 unfolding request_in
 request_apart X b other plain =
     by_pick (Apart X) (eqb (get_or b 1 0) 0) _ _ (λ _. command_apart X (le32 8 b) other (read_op (op_field b)) (get_or b 3 0))
-    (λ _. by_pick (Apart X) (eqb (get_or b 1 0) 1) _ Wrong
+    (λ _. by_pick (Apart X) (eqb (get_or b 1 0) 1) _ None
     (λ _. engine_apart X (le32 8 b) other (read_number (op_field b)) (le32 12 b) (le32 16 b) (le32 20 b) (get_or b 24 0)
     (number_plain (op_field b) (λ e. plain (omega arith))))
     (λ _. tt))
@@ -151,17 +144,17 @@ module _ (w : Bool) (X : Record) where
   Clear s = clash_status w (X ∷ []) s ≡ false
 
   -- a request that does not run
-  still_clear : (code m : ℕ) (f : RequestFound) → ¬ (code ≡ 1) → Clear (status_held code m f)
-  still_clear code m (Request q) n = rw (ne_eqb code 1 n) (by_pick Clear (eqb code 2) (Finished m q) broken (λ _. refl) (λ _. refl))
-  still_clear code m Wrong n = refl
+  still_clear : (code m : ℕ) (f : Option Request) → ¬ (code ≡ 1) → Clear (status_held code m f)
+  still_clear code m (Some q) n = rw (ne_eqb code 1 n) (by_pick Clear (eqb code 2) (Finished m q) broken (λ _. refl) (λ _. refl))
+  still_clear code m None n = refl
 
   -- one that has not the record
-  apart_clear : (code m : ℕ) (f : RequestFound) → Apart X f → Clear (status_held code m f)
+  apart_clear : (code m : ℕ) (f : Option Request) → Apart X f → Clear (status_held code m f)
   unfolding clash_records
-  apart_clear code m (Request q) a =
+  apart_clear code m (Some q) a =
       by_pick Clear (eqb code 1) (Running m q) _ (λ _. rw a)
       (λ _. by_pick Clear (eqb code 2) (Finished m q) broken (λ _. refl) (λ _. refl))
-  apart_clear code m Wrong a = refl
+  apart_clear code m None a = refl
 
   module _ (b : List ℕ) where
     status_clear : Clear (status_held (get_or b 0 0) (get_or b 2 0) (request_in b)) → Clear (status_of b)

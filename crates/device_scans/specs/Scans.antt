@@ -1,5 +1,5 @@
 -- The turns of the two scans of a device's bytes.
-use Rattle.std.specs.Prelude.{◌≡◌, Bool, true, false, not, List, [], ◌∷◌, ℕ, ◌+◌, ◌≤◌, ◌<◌, length, get_or, drop}
+use Rattle.std.specs.Prelude.{◌≡◌, Bool, true, false, not, List, [], ◌∷◌, ℕ, ◌+◌, ◌≤◌, ◌<◌, length, get_or, drop, Option, Some, None}
 use Rattle.std.proofs.Common.{sym, ◌∙◌, ap, lit≤}
 use Rattle.std.proofs.lemmas.Bool.{not-true}
 use Rattle.context.specs.Layout.{number_of}
@@ -9,8 +9,6 @@ use Rattle.slots.specs.declared.Slot.{Slot}
 use Rattle.slots.specs.declared.Status.TheVariants.{Free}
 use Rattle.rows.specs.Rows.{any_slot, lowest_free}
 use Rattle.rows.proofs.Scans.{any_more, any_found, any_none, free_more, free_found, free_none}
-use Rattle.rows.specs.declared.SlotFound.{SlotFound}
-use Rattle.rows.specs.declared.SlotFound.TheVariants.{At, Nothing}
 use Rattle.holds.specs.Holds.{clash_slot}
 use Rattle.device_bytes.specs.Decoding.{slot_place, slot_at, slots_of, row_of}
 use Rattle.device_bytes.proofs.Walks.{length_slots, get_or_slots, free_read}
@@ -28,7 +26,7 @@ module _ (dev : List ℕ) where
 
   -- ---- the lowest free slot
 
-  pub free_passed : (k : ℕ) (r : SlotFound) → k < 8 → ¬ (get_or dev (slot_place k) 0 ≡ 0) → lowest_free k (drop k (slots_of 8 dev)) ≡ r
+  pub free_passed : (k : ℕ) (r : Option ℕ) → k < 8 → ¬ (get_or dev (slot_place k) 0 ≡ 0) → lowest_free k (drop k (slots_of 8 dev)) ≡ r
       → lowest_free (k + 1) (drop (k + 1) (slots_of 8 dev)) ≡ r
   free_passed k r h some e =
       free_more (slots_of 8 dev) k r (length_slots 8 dev) h (ap is_occupied (slot_is k h) ∙ some_occupied dev k some) e
@@ -38,13 +36,13 @@ module _ (dev : List ℕ) where
     row_is = sym (slots_are dev row.sized row.flag)
 
     pub free_taken : (k : ℕ) → k < 8 → get_or dev (slot_place k) 0 ≡ 0 → lowest_free k (drop k (slots_of 8 dev)) ≡ lowest_free 0 (slots_of 8 dev)
-        → At k ≡ lowest_free 0 (row_of dev)
+        → Some k ≡ lowest_free 0 (row_of dev)
     free_taken k h none e =
         free_found (slots_of 8 dev) k (lowest_free 0 (slots_of 8 dev)) (length_slots 8 dev) h
         (ap is_occupied (slot_is k h ∙ free_read k dev none)) e
         ∙ ap (lowest_free 0) row_is
 
-    pub free_full : (k : ℕ) → 8 ≤ k → lowest_free k (drop k (slots_of 8 dev)) ≡ lowest_free 0 (slots_of 8 dev) → Nothing ≡ lowest_free 0 (row_of dev)
+    pub free_full : (k : ℕ) → 8 ≤ k → lowest_free k (drop k (slots_of 8 dev)) ≡ lowest_free 0 (slots_of 8 dev) → None ≡ lowest_free 0 (row_of dev)
     free_full k h e = free_none (slots_of 8 dev) k (lowest_free 0 (slots_of 8 dev)) (length_slots 8 dev) h e ∙ ap (lowest_free 0) row_is
 
   -- ---- a hold

@@ -11,20 +11,19 @@ ghost use Rattle.device_scans.specs.Scans.{HasRow};
 
 use context::Record;
 use request_table::Records;
-use rows::SlotFound;
 use slots::{Slot, Status};
 
 // The slot that submission takes. A free slot is known by its first byte.
-pub fn lowest_free(dev: &[u8]) -> SlotFound
+pub fn lowest_free(dev: &[u8]) -> Option<usize>
     requires { HasRow dev.now }
     ensures { result ≡ lowest_free 0 (row_of dev.now) }
 {
     for k in 0..8 {
         if dev[32 + k * 32] == 0 {
-            return SlotFound::At(k);
+            return Some(k);
         }
     }
-    SlotFound::Nothing
+    None
 }
 
 // Whether slot `k` runs, and has this index or may be a joined read, which also holds records that its index does not name.

@@ -19,17 +19,17 @@ use Rattle.lengths.specs.Lengths.{lengths_wrong}
 use Rattle.lengths.proofs.Lengths.{passing}
 use Rattle.handed_back.specs.Handed.{step_handed, step_refusal}
 use Rattle.handed_back.proofs.Handed.{step_refusal_lem}
-use Rattle.handed_back.specs.declared.Stepped.{Stepped}
+use Rattle.handed_back.specs.declared.HandedBack.{HandedBack}
 use Rattle.moving.specs.Steps.{LookedUp, step_none}
 
 module _ (h : Hca) (row : List Slot) (store room : List ℕ) (k : ℕ) where
   -- no request runs in the slot
-  pub none_runs : (t : Status) (r : Stepped) → OneOf (0 ∷ 2 ∷ []) (tag_of (declared Status'.enum) t)
+  pub none_runs : (t : Status) (r : HandedBack ℕ) → OneOf (0 ∷ 2 ∷ []) (tag_of (declared Status'.enum) t)
       → r ≡ step_refusal row cause.NoRequest → step_handed h row store room r ≡ step_on (world h row store room) k t
   none_runs t r o e = step_refusal_lem h row store room cause.NoRequest r e ∙ step_none (world h row store room) k t o
 
   -- the first tests, as the calls answered them
-  pub step_refused_lem : (c : Refusal) (r : Stepped) (y : After) → r ≡ step_refusal row c → step_refused (world h row store room) c ≡ y
+  pub step_refused_lem : (c : Refusal) (r : HandedBack ℕ) (y : After) → r ≡ step_refusal row c → step_refused (world h row store room) c ≡ y
       → step_handed h row store room r ≡ y
   step_refused_lem c r y e f = step_refusal_lem h row store room c r e ∙ f
 

@@ -7,21 +7,10 @@ ghost use Rattle.rules.specs.World.{world};
 ghost use Rattle.rules.specs.Steps.{step_on, step_of};
 ghost use Rattle.moving.specs.Steps.{LookedUp};
 
-use handed_back::Stepped;
+use handed_back::{HandedBack, refused};
 use possible::Hca;
-use rules::{Refusal, StepAnswer};
+use rules::Refusal;
 use slots::{Slot, Status};
-
-// No slot changes.
-fn refused(row: [Slot; 8], cause: Refusal) -> Stepped
-    ensures { result ≡ step_refusal row cause }
-{
-    Stepped {
-        answer: StepAnswer::Refused(cause),
-        at: 0,
-        slot: row_slots::slot_at(row, 0),
-    }
-}
 
 // Every burst comes here. So the slot is looked up once and handed on; the row is only for refusals.
 fn step_slot(
@@ -31,7 +20,7 @@ fn step_slot(
     room: &mut [u8],
     k: usize,
     slot: Slot,
-) -> Stepped
+) -> HandedBack<u8>
     requires { LookedUp (world hca row store.old room.old) k slot }
     ensures { step_handed hca row store.new room.new result
         ≡ step_on (world hca row store.old room.old) k slot.status }
@@ -43,15 +32,15 @@ fn step_slot(
     moving::move_burst(hca, store, room, k, request, m);
     let next = slot.advance();
     let after = next.slot;
-    Stepped {
-        answer: StepAnswer::Left(next.left),
+    HandedBack {
+        answer: Ok(next.left),
         at: k,
         slot: after,
     }
 }
 
 // One burst of the request in slot k.
-pub fn step(hca: Hca, row: [Slot; 8], store: &mut [u8], room: &mut [u8], k: usize) -> Stepped
+pub fn step(hca: Hca, row: [Slot; 8], store: &mut [u8], room: &mut [u8], k: usize) -> HandedBack<u8>
     ensures { step_handed hca row store.new room.new result
         ≡ step_of (world hca row store.old room.old) k }
 {

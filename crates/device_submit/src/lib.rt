@@ -26,8 +26,7 @@ pub fn submit_engine(
         ≡ submit_engine (world hca row store.old room.old) number index psn state }
 {
     let decision = deciding::decide_engine(hca, row, store, room, number, index, psn, state);
-    let none = [0u8; 0];
-    applying::apply(hca, row, store, room, &none, decision)
+    applying::apply(hca, row, store, room, &[], decision)
 }
 
 // Submits a command: its 28 bytes, and its mailbox.

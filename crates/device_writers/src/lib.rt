@@ -3,7 +3,6 @@
 #![tactic(auto)]
 
 ghost use Rattle.std.specs.Prelude.{◌≡◌, ◌/◌, ◌%◌, ◌^◌, ◌<◌, length};
-ghost use Rattle.hcr.specs.Register.{bit};
 ghost use Rattle.device_bytes.specs.Encoding.{status_code, moved_in, header_bytes, put_moved, put_header};
 
 use context::Logs;
@@ -41,12 +40,7 @@ pub fn write_moved(dev: &mut [u8], k: usize, slot: Slot)
     dev[at + 2] = moved_in(status);
 }
 
-fn bit_of(b: bool) -> u8
-    ensures { result ≡ bit b }
-{
-    if b { 1 } else { 0 }
-}
-
+// The two words of the store's length: each fits, so that `as` loses nothing.
 fn low_of(v: usize) -> u32
     ensures { result ≡ v % 2 ^ 32 }
 {
@@ -80,7 +74,7 @@ pub fn write_header(dev: &mut [u8], hca: Hca)
 {
     let logs = hca.logs;
     let bytes = header_bytes(
-        bit_of(hca.open),
+        u8::from(hca.open),
         logs,
         low_of(hca.store_len),
         high_of(hca.store_len),

@@ -1,5 +1,5 @@
 -- Laws about the definitions of specs/Exact.antt.
-use Rattle.std.specs.Prelude.{◌≡◌, refl, Bool, true, false, not, List, [], ◌∷◌, ℕ, ◌<◌, eqb, leb}
+use Rattle.std.specs.Prelude.{◌≡◌, refl, Bool, true, false, not, List, [], ◌∷◌, ℕ, ◌<◌, eqb, leb, Result, Ok, Err}
 use Rattle.std.proofs.Common.{sym, ◌∙◌, arith, ne_eqb, leb-true}
 use Rattle.std.proofs.lemmas.Bool.{false≢true}
 use Rattle.std.proofs.Math.Decide.{dec_lt}
@@ -12,7 +12,8 @@ use Rattle.edges.specs.Every.{every_below, agrees}
 use Rattle.edges.proofs.Every.{each_below, none_permitted, all_agree}
 use Rattle.edges.specs.declared.Move.{Move}
 use Rattle.edges.specs.declared.Move.TheVariants.{Command, Engine}
-use Rattle.edges.specs.declared.EdgeVerdict.TheVariants.{Permitted, NotPermitted, NotForType}
+use Rattle.edges.specs.declared.EdgeDenial.{EdgeDenial}
+use Rattle.edges.specs.declared.EdgeDenial.TheVariants as edgeDenial
 use Rattle.edge_table.specs.declared.Entry.{Entry}
 use Rattle.edge_table.specs.declared.Entry.TheVariants.{Always, UnlessRc, Never}
 use Rattle.edge_table.specs.Table.{Line, line, table, entry_in, entry_of, allows, verdict_by}
@@ -49,17 +50,17 @@ permitted_is asked code service = go (dec_lt code 16)
 
 -- ---- the verdict, from what the entry allows; a command's entry is not for some types alone, since no command is asked for the type
 by_entry : (e : Entry) (service : ℕ)
-    → pick (allows e service) Permitted (pick (either (allows e rc) (either (allows e uc) (allows e ud))) NotForType NotPermitted)
+    → pick (allows e service) (Ok tt) (pick (either (allows e rc) (either (allows e uc) (allows e ud))) (Err edgeDenial.NotForType) (Err edgeDenial.NotPermitted))
     ≡ verdict_by e service
 by_entry Always service = refl
 by_entry UnlessRc service = go (eqb service rc)
   where
-    go : (b : Bool) → pick (not b) Permitted NotForType ≡ pick b NotForType Permitted
+    go : (b : Bool) → pick {A = Result (Unit {0}) EdgeDenial} (not b) (Ok tt) (Err edgeDenial.NotForType) ≡ pick b (Err edgeDenial.NotForType) (Ok tt)
     go true = refl
     go false = refl
 by_entry Never service = refl
 
-untyped : (e : Entry) (service : ℕ) → allows e rc ≡ allows e uc → pick (allows e service) Permitted NotPermitted ≡ verdict_by e service
+untyped : (e : Entry) (service : ℕ) → allows e rc ≡ allows e uc → pick (allows e service) (Ok tt) (Err edgeDenial.NotPermitted) ≡ verdict_by e service
 untyped Always service h = refl
 untyped UnlessRc service h = absurd (false≢true h)
 untyped Never service h = refl

@@ -2,7 +2,7 @@
 -- state, 0 to 15, with everything that may leave it: commands (01, Commands, the table of edges; 0x1e also 02, wish 1) and engine writes
 -- (01, Engine requests). It is data, written apart from the rule, which is `edges/Edges: permits`; `Exact: exact` proves that the two are the
 -- same.
-use Rattle.std.specs.Prelude.{Bool, true, false, not, List, [], ◌∷◌, ℕ, eqb}
+use Rattle.std.specs.Prelude.{Bool, true, false, not, List, [], ◌∷◌, ℕ, eqb, Result, Ok, Err}
 use Rattle.words.specs.Choice.{pick, both}
 use Rattle.edges.specs.States.{state_code, rc}
 use Rattle.edges.specs.Edges.{is, to_of}
@@ -11,8 +11,8 @@ use Rattle.edges.specs.declared.State.TheVariants.{Reset, Init, Rtr, Rts, Sqe, S
 use Rattle.edges.specs.declared.Edge.{Edge}
 use Rattle.edges.specs.declared.Move.{Move}
 use Rattle.edges.specs.declared.Move.TheVariants.{Command, Engine}
-use Rattle.edges.specs.declared.EdgeVerdict.{EdgeVerdict}
-use Rattle.edges.specs.declared.EdgeVerdict.TheVariants.{Permitted, NotPermitted, NotForType}
+use Rattle.edges.specs.declared.EdgeDenial.{EdgeDenial}
+use Rattle.edges.specs.declared.EdgeDenial.TheVariants as edgeDenial
 use Rattle.request_codes.specs.Numbers.{edge_op}
 use Rattle.edge_table.specs.declared.Entry.{Entry}
 use Rattle.edge_table.specs.declared.Entry.TheVariants.{Always, UnlessRc, Never}
@@ -89,7 +89,7 @@ allows UnlessRc service = not (eqb service rc)
 allows Never service = false
 
 -- What a move is told by its entry: one that is for every type but RC is refused for the type where that is RC (02, wish 5).
-abbrev pub verdict_by : Entry → ℕ → EdgeVerdict
-verdict_by Always service = Permitted
-verdict_by UnlessRc service = pick (eqb service rc) NotForType Permitted
-verdict_by Never service = NotPermitted
+abbrev pub verdict_by : Entry → ℕ → Result (Unit {0}) EdgeDenial
+verdict_by Always service = Ok tt
+verdict_by UnlessRc service = pick (eqb service rc) (Err edgeDenial.NotForType) (Ok tt)
+verdict_by Never service = Err edgeDenial.NotPermitted

@@ -5,9 +5,9 @@
 ghost use Rattle.std.specs.Prelude.{◌≡◌};
 ghost use Rattle.edge_table.specs.Table.{entry_of};
 
-use edges::{EdgeVerdict, Move};
+use edges::{EdgeDenial, Move};
 
-// The code of the service type RC.
+// The code of the service type RC. The edge decision takes any byte.
 const RC: u8 = 0;
 
 // For which service types the table has a move.
@@ -23,8 +23,8 @@ pub fn look_up(asked: Move, code: u8) -> Entry
     ensures { result ≡ entry_of asked code }
 {
     match edges::judge(asked, code, RC) {
-        EdgeVerdict::Permitted => Entry::Always,
-        EdgeVerdict::NotPermitted => Entry::Never,
-        EdgeVerdict::NotForType => Entry::UnlessRc,
+        Ok(()) => Entry::Always,
+        Err(EdgeDenial::NotPermitted) => Entry::Never,
+        Err(EdgeDenial::NotForType) => Entry::UnlessRc,
     }
 }

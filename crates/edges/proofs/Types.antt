@@ -1,5 +1,5 @@
 -- Laws about the definitions of specs/Types.antt.
-use Rattle.std.specs.Prelude.{◌≡◌, refl, true, ℕ, ◌<◌, eqb}
+use Rattle.std.specs.Prelude.{◌≡◌, refl, true, ℕ, ◌<◌, eqb, Ok, Err}
 use Rattle.std.proofs.Common.{ap, arith, ne_eqb}
 use Rattle.std.proofs.Math.Decide.{dec_lt}
 use Rattle.words.specs.Choice.{pick}
@@ -11,14 +11,14 @@ use Rattle.edges.specs.Every.{every_below, AsUc, alike}
 use Rattle.edges.proofs.Every.{each_below, none_permitted, permits_as_uc, all_alike}
 use Rattle.edges.specs.declared.Move.{Move}
 use Rattle.edges.specs.declared.Move.TheVariants.{Command, Engine}
-use Rattle.edges.specs.declared.EdgeVerdict.TheVariants.{Permitted, NotPermitted, NotForType}
 use Rattle.edges.specs.Types.{code_right, gets88, stops_rc}
+use Rattle.edges.specs.declared.EdgeDenial.TheVariants as edgeDenial
 
 -- ---- the proof: one test of every move from every code below 7, for RC and for UC; from a code above nothing is permitted
 gets88_as_uc : (code : ℕ) → AsUc (gets88 code)
 unfolding judge_of
 gets88_as_uc code asked service e =
-    ap (λ b. eqb (edge_verdict_number (pick b Permitted (pick (for_some_type asked code) NotForType NotPermitted))) 0x88)
+    ap (λ b. eqb (edge_verdict_number (pick b (Ok tt) (pick (for_some_type asked code) (Err edgeDenial.NotForType) (Err edgeDenial.NotPermitted)))) 0x88)
     (permits_as_uc code asked service e)
 
 stops_rc_as_uc : (code : ℕ) → AsUc (stops_rc code)

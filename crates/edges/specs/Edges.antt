@@ -1,5 +1,5 @@
 -- Which moves are permitted, from which state code and for which service type.
-use Rattle.std.specs.Prelude.{Bool, false, not, ℕ, eqb}
+use Rattle.std.specs.Prelude.{Bool, false, not, ℕ, eqb, Result, Ok, Err}
 use Rattle.words.specs.Choice.{pick, both, either}
 use Rattle.edges.specs.States.{state_code, is_state, rc, uc, ud}
 use Rattle.edges.specs.declared.State.{State}
@@ -9,8 +9,8 @@ use Rattle.edges.specs.declared.Edge.TheVariants.{ResetToInit, InitToInit, InitT
 use Rattle.edges.specs.declared.Edge.TheVariants.{RtsToSqd, SqdToSqd, SqdToRts, ToErr, ToReset}
 use Rattle.edges.specs.declared.Move.{Move}
 use Rattle.edges.specs.declared.Move.TheVariants.{Command, Engine}
-use Rattle.edges.specs.declared.EdgeVerdict.{EdgeVerdict}
-use Rattle.edges.specs.declared.EdgeVerdict.TheVariants.{Permitted, NotPermitted, NotForType}
+use Rattle.edges.specs.declared.EdgeDenial.{EdgeDenial}
+use Rattle.edges.specs.declared.EdgeDenial.TheVariants as edgeDenial
 
 -- The code is that of the state.
 abbrev pub is : State → ℕ → Bool
@@ -89,11 +89,11 @@ for_some_type (Engine to) code = permits_some to code
 
 -- The decision, as a verdict. An engine write that is not permitted for the record's type, but for another, is refused for the type, and
 -- every other move that is not permitted for its edge (02, wish 5).
-unfoldable pub judge_of : Move → ℕ → ℕ → EdgeVerdict
-judge_of asked code service = pick (permits asked code service) Permitted (pick (for_some_type asked code) NotForType NotPermitted)
+unfoldable pub judge_of : Move → ℕ → ℕ → Result (Unit {0}) EdgeDenial
+judge_of asked code service = pick (permits asked code service) (Ok tt) (pick (for_some_type asked code) (Err edgeDenial.NotForType) (Err edgeDenial.NotPermitted))
 
 -- The number of each verdict (01, Numbers returned, 0x85; 02, wish 5).
-abbrev pub edge_verdict_number : EdgeVerdict → ℕ
-edge_verdict_number Permitted = 0
-edge_verdict_number NotPermitted = 0x85
-edge_verdict_number NotForType = 0x88
+abbrev pub edge_verdict_number : Result (Unit {0}) EdgeDenial → ℕ
+edge_verdict_number (Ok tt) = 0
+edge_verdict_number (Err edgeDenial.NotPermitted) = 0x85
+edge_verdict_number (Err edgeDenial.NotForType) = 0x88

@@ -42,10 +42,9 @@ pub enum Move {
     Engine(State),
 }
 
-// Whether a move is permitted. An engine write that is not may be permitted for another service type.
-#[derive(Clone, Copy)]
-pub enum EdgeVerdict {
-    Permitted,
+// Why a move is not permitted. An engine write may be permitted for another service type.
+#[derive(Clone, Copy, Debug, PartialEq, Eq)]
+pub enum EdgeDenial {
     NotPermitted,
     NotForType,
 }
@@ -57,18 +56,20 @@ const UC: u8 = 1;
 
 const UD: u8 = 3;
 
-// The code of a state, as a record has it.
-pub fn state_code(state: State) -> u8
-    ensures { result ≡ state_code state }
-{
-    match state {
-        State::Reset => 0,
-        State::Init => 1,
-        State::Rtr => 2,
-        State::Rts => 3,
-        State::Sqe => 4,
-        State::Sqd => 5,
-        State::Err => 6,
+impl From<State> for u8 {
+    ghost from_gives = { λ state code. code ≡ state_code state };
+
+    // The code of a state, as a record has it.
+    fn from(state: State) -> u8 {
+        match state {
+            State::Reset => 0,
+            State::Init => 1,
+            State::Rtr => 2,
+            State::Rts => 3,
+            State::Sqe => 4,
+            State::Sqd => 5,
+            State::Err => 6,
+        }
     }
 }
 
@@ -245,15 +246,15 @@ fn for_some_type(asked: Move, code: u8) -> bool
 }
 
 // The decision, from the record's state code and service type.
-pub fn judge(asked: Move, code: u8, service: u8) -> EdgeVerdict
+pub fn judge(asked: Move, code: u8, service: u8) -> Result<(), EdgeDenial>
     ensures { (result ≡ judge_of asked code service)
         × (edge_verdict_number result ≡ pick (permits asked code service) 0 (pick (for_some_type asked code) 0x88 0x85)) }
 {
     if permitted(asked, code, service) {
-        return EdgeVerdict::Permitted;
+        return Ok(());
     }
     if for_some_type(asked, code) {
-        return EdgeVerdict::NotForType;
+        return Err(EdgeDenial::NotForType);
     }
-    EdgeVerdict::NotPermitted
+    Err(EdgeDenial::NotPermitted)
 }

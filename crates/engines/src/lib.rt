@@ -9,11 +9,10 @@ ghost use Rattle.engines.specs.Engines.{is_numbered, number_found_number, engine
 
 use context::{Logs, QpNumber};
 use edges::State;
-use numbers::QpFound;
 use requests::{EngineRequest, PsnField};
 
 // The engine requests' numbers that are served.
-#[derive(Drop)]
+#[derive(Clone, Copy)]
 pub enum EngineNumber {
     ReadState,
     ReadNext,
@@ -22,89 +21,77 @@ pub enum EngineNumber {
     ReadJoined,
 }
 
-#[derive(Drop)]
-pub enum NumberFound {
-    Served(EngineNumber),
-    NotServed,
-}
-
-#[derive(Drop)]
-pub enum StateFound {
-    State(State),
-    OutOfRange,
-}
-
-// A request that is whole as it was asked for; the joined read of a queue pair, whose other records
-// the submission finds named; or neither.
-#[derive(Drop)]
-pub enum EngineFound {
+// A request that is whole as it was asked for, or the joined read of a queue pair, whose other records
+// the submission finds named.
+#[derive(Clone, Copy)]
+pub enum EngineAsked {
     OnRecord(EngineRequest),
     Joined(QpNumber),
-    Wrong,
 }
 
-pub fn read_number(number: u32) -> NumberFound
+pub fn read_number(number: u32) -> Option<EngineNumber>
     ensures { (result ≡ read_number number) × (number_found_number result ≡ pick (is_numbered number) 0 2) }
 {
     match number {
-        1 => NumberFound::Served(EngineNumber::ReadState),
-        2 => NumberFound::Served(EngineNumber::ReadNext),
-        3 => NumberFound::Served(EngineNumber::Write(PsnField::NextSend)),
-        4 => NumberFound::Served(EngineNumber::Write(PsnField::LastAcked)),
-        5 => NumberFound::Served(EngineNumber::Write(PsnField::Expected)),
-        6 => NumberFound::Served(EngineNumber::ReadAll),
-        7 => NumberFound::Served(EngineNumber::ReadJoined),
-        _ => NumberFound::NotServed,
+        1 => Some(EngineNumber::ReadState),
+        2 => Some(EngineNumber::ReadNext),
+        3 => Some(EngineNumber::Write(PsnField::NextSend)),
+        4 => Some(EngineNumber::Write(PsnField::LastAcked)),
+        5 => Some(EngineNumber::Write(PsnField::Expected)),
+        6 => Some(EngineNumber::ReadAll),
+        7 => Some(EngineNumber::ReadJoined),
+        _ => None,
     }
 }
 
-fn read_state(code: u8) -> StateFound
+fn read_state(code: u8) -> Option<State>
     ensures { result ≡ state_from code }
 {
     match code {
-        0 => StateFound::State(State::Reset),
-        1 => StateFound::State(State::Init),
-        2 => StateFound::State(State::Rtr),
-        3 => StateFound::State(State::Rts),
-        4 => StateFound::State(State::Sqe),
-        5 => StateFound::State(State::Sqd),
-        6 => StateFound::State(State::Err),
-        _ => StateFound::OutOfRange,
+        0 => Some(State::Reset),
+        1 => Some(State::Init),
+        2 => Some(State::Rtr),
+        3 => Some(State::Rts),
+        4 => Some(State::Sqe),
+        5 => Some(State::Sqd),
+        6 => Some(State::Err),
+        _ => None,
     }
 }
 
-fn engine_write(which: PsnField, n: QpNumber, psn: u32, found: StateFound) -> EngineFound
+fn engine_write(which: PsnField, n: QpNumber, psn: u32, found: Option<State>) -> Option<EngineAsked>
     ensures { result ≡ engine_write_of which n psn found }
 {
     if !requests::psn_fits(psn) {
-        return EngineFound::Wrong;
+        return None;
     }
-    match found {
-        StateFound::State(s) => EngineFound::OnRecord(EngineRequest::Write(which, s, n, psn)),
-        StateFound::OutOfRange => EngineFound::Wrong,
-    }
+    Some(EngineAsked::OnRecord(EngineRequest::Write(which, found?, n, psn)))
 }
 
-fn engine_on(number: EngineNumber, n: QpNumber, psn: u32, code: u8) -> EngineFound
+fn engine_on(number: EngineNumber, n: QpNumber, psn: u32, code: u8) -> Option<EngineAsked>
     ensures { result ≡ engine_on number n psn code }
 {
     match number {
-        EngineNumber::ReadState => EngineFound::OnRecord(EngineRequest::ReadState(n)),
-        EngineNumber::ReadNext => EngineFound::OnRecord(EngineRequest::ReadNext(n)),
-        EngineNumber::ReadAll => EngineFound::OnRecord(EngineRequest::ReadAll(n)),
+        EngineNumber::ReadState => Some(EngineAsked::OnRecord(EngineRequest::ReadState(n))),
+        EngineNumber::ReadNext => Some(EngineAsked::OnRecord(EngineRequest::ReadNext(n))),
+        EngineNumber::ReadAll => Some(EngineAsked::OnRecord(EngineRequest::ReadAll(n))),
         EngineNumber::Write(which) => engine_write(which, n, psn, read_state(code)),
-        EngineNumber::ReadJoined => EngineFound::Joined(n),
+        EngineNumber::ReadJoined => Some(EngineAsked::Joined(n)),
     }
 }
 
-// The engine request, or `Wrong` where index, PSN or state is wrong. Reads do not look at PSN and
+// The engine request, or `None` where index, PSN or state is wrong. Reads do not look at PSN and
 // state.
-pub fn read_engine(number: EngineNumber, index: u32, psn: u32, code: u8, logs: Logs) -> EngineFound
+pub fn read_engine(
+    number: EngineNumber,
+    index: u32,
+    psn: u32,
+    code: u8,
+    logs: Logs,
+) -> Option<EngineAsked>
     ensures { (result ≡ read_engine logs number index psn code)
         × (engine_found_number result ≡ pick (engine_right logs number index psn code) 0 3) }
 {
-    match numbers::qp_number(logs, index) {
-        QpFound::Number(n) => engine_on(number, n, psn, code),
-        QpFound::OutOfRange => EngineFound::Wrong,
-    }
+    let n = numbers::qp_number(logs, index)?;
+    engine_on(number, n, psn, code)
 }

@@ -1,303 +1,262 @@
-// A device of document 01's examples, with the logarithms 3, 2, 1 and 2, and the calls made on it: the
-// operations over a lent row.
-ghost use Rattle.std.specs.Prelude.{◌≤◌, length};
+// A device of document 01's examples, with the logarithms 3, 2, 1 and 2. An example is the calls that
+// are made on it, in order from where it is closed, so each says all that went before its last call.
+ghost use Rattle.std.specs.Prelude.{◌≤◌};
 
-use crate::calls;
-use crate::calls::{Call, Script};
-use adapter_front_submits::SubmittedFront;
-use adapter_fronts::{CollectedFront, ResetFront, SteppedFront};
+use crate::calls::{Call, Operation, Unusual, collect, command, step};
+use front_rows::FrontAnswer;
 use hcr::HcrCommand;
-use lent_answers::{ResetReply, SubmitReply};
+use lent_answers::Reply;
 use possible::Hca;
-use rules::{CollectAnswer, ResetAnswer, StepAnswer, SubmitAnswer};
+use rules::{Refusal, Submission};
 use slots::Slot;
 
-// What the last call of an example answered, and word 84h of queue pair 7 after it.
-#[derive(Drop)]
-pub struct Found {
-    pub number: u8,
-    pub slot: u8,
-    pub word_84: u32,
-}
+// The most bytes of each memory that a call is lent.
+const STORE: usize = 2689;
 
-// No slot, where nothing is accepted.
-const NO_SLOT: u8 = 255;
+const ROOM: usize = 3072;
+
+const OUT: usize = 384;
 
 // Byte 84h of queue pair 7.
 const WORD_84: usize = 7 * 256 + 0x84;
 
+// What the caller keeps: the state, the slots and the memory, and what the last call answered.
+#[derive(Drop)]
+pub struct Device {
+    answer: Result<Submission, Refusal>,
+    hca: Hca,
+    row: [Slot; 9],
+    store: [u8; STORE],
+    room: [u8; ROOM],
+}
+
 // The bytes of each memory that a call is lent.
-fn room_len(but: u8) -> usize
+fn room_len(call: Call) -> usize
     ensures { result ≤ 3072 }
 {
-    if but == calls::ROOM_3071 {
-        return 3071;
+    match call.unusual {
+        Some(Unusual::Room3071) => 3071,
+        _ => 3072,
     }
-    3072
 }
 
-fn store_len(but: u8) -> usize
+fn store_len(call: Call) -> usize
     ensures { result ≤ 2689 }
 {
-    if but == calls::STORE_2687 {
-        return 2687;
+    match call.unusual {
+        Some(Unusual::Store2687) => 2687,
+        Some(Unusual::Store2689) => 2689,
+        _ => 2688,
     }
-    if but == calls::STORE_2689 {
-        return 2689;
-    }
-    2688
 }
 
-fn out_len(but: u8) -> usize
+fn out_len(call: Call) -> usize
     ensures { result ≤ 384 }
 {
-    if but == calls::BUFFER_255 {
-        return 255;
-    }
-    if but == calls::BUFFER_383 {
-        return 383;
-    }
-    384
-}
-
-// The slot of an acceptance.
-fn slot_number(answer: SubmitAnswer) -> u8 {
-    let SubmitAnswer::Accepted(k) = answer else {
-        return NO_SLOT;
-    };
-    if k < 8 {
-        return k as u8;
-    }
-    NO_SLOT
-}
-
-fn register_of(c: Call) -> HcrCommand {
-    HcrCommand {
-        in_param: 0,
-        in_modifier: c.index,
-        out_param: 0,
-        token: 0,
-        event: c.but == calls::EVENT,
-        op_modifier: c.op_modifier,
-        op: c.op,
+    match call.unusual {
+        Some(Unusual::Buffer255) => 255,
+        Some(Unusual::Buffer383) => 383,
+        _ => 384,
     }
 }
 
-fn write_register(bytes: &mut [u8], c: Call)
-    requires { 28 ≤ length bytes.old }
-{
-    hcr_writer::write(bytes, register_of(c));
-    if c.but == calls::NO_GO {
+fn register_bytes(asked: HcrCommand, call: Call) -> [u8; 28] {
+    let mut bytes = [0u8; 28];
+    // The register is long enough, and each op of an example fits in it.
+    let _ = hcr_writer::write(&mut bytes, asked);
+    if call.has(Unusual::NoGo) {
         bytes[0x1a] = 0;
     }
+    bytes
 }
 
-fn either(but: u8, which: u8, other: u32, usual: u32) -> u32 {
-    if but == which {
-        return other;
-    }
-    usual
+// One mailbox for all commands: the counts of INIT_HCA, each the low byte of a word, a type, P12's
+// word 84h, word 2Ch 0 for CQ 0, and the names in words 10h and 70h.
+fn mailbox_bytes(call: Call) -> [u8; 164] {
+    let either = |which: Unusual, other: u32, usual: u32| {
+        if call.has(which) { other } else { usual }
+    };
+    let mut bytes = [0u8; 164];
+    words::write_be32(&mut bytes, 0x00, either(Unusual::Type2, 2 << 16, 0));
+    words::write_be32(&mut bytes, 0x0c, either(Unusual::Log15, 15, 3));
+    words::write_be32(&mut bytes, 0x10, either(Unusual::Eq2, 2, 0));
+    words::write_be32(&mut bytes, 0x14, 2);
+    words::write_be32(&mut bytes, 0x1c, 1);
+    words::write_be32(&mut bytes, 0x34, 2);
+    words::write_be32(&mut bytes, 0x70, either(Unusual::Cq4, 4, 0));
+    words::write_be32(&mut bytes, 0x84, 0x07000010);
+    bytes
 }
 
-// The logarithms that INIT_HCA reads, each the low byte of a word.
-fn write_counts(bytes: &mut [u8], but: u8)
-    requires { 164 ≤ length bytes.old }
-{
-    words::write_be32(bytes, 0x0c, either(but, calls::LOG_15, 15, 3));
-    words::write_be32(bytes, 0x14, 2);
-    words::write_be32(bytes, 0x1c, 1);
-    words::write_be32(bytes, 0x34, 2);
-}
-
-// One mailbox for all commands: the counts of INIT_HCA, a type, P12's word 84h, word 2Ch 0 for CQ 0,
-// and the names in words 10h and 70h.
-fn write_mailbox(bytes: &mut [u8], but: u8)
-    requires { 164 ≤ length bytes.old }
-{
-    write_counts(bytes, but);
-    words::write_be32(bytes, 0x00, either(but, calls::TYPE_2, 2 << 16, 0));
-    words::write_be32(bytes, 0x10, either(but, calls::EQ_2, 2, 0));
-    words::write_be32(bytes, 0x70, either(but, calls::CQ_4, 4, 0));
-    words::write_be32(bytes, 0x84, 0x07000010);
-}
-
-// All of the bytes, or all but the last where that is what is not as usual.
-fn lent(bytes: &[u8], but: u8, short: u8) -> &[u8] {
-    if but != short {
-        return bytes;
-    }
-    if bytes.len() == 0 {
-        return bytes;
-    }
-    let n = bytes.len() - 1;
-    &bytes[..n]
-}
-
-// The state handed in: the one that the last call left, or a closed one.
-fn handed_in(last: SubmitReply, but: u8) -> Hca {
-    if but == calls::CLOSED_STATE {
-        return start::closed_state();
-    }
-    let hca = last.hca;
-    hca
-}
-
-// The answers of the other operations, as answers of a submission: the numbers are the same.
-fn step_answer(answer: StepAnswer) -> SubmitAnswer {
-    match answer {
-        StepAnswer::Left(_) => SubmitAnswer::Done,
-        StepAnswer::Refused(cause) => SubmitAnswer::Refused(cause),
+// All of the bytes, or all but the last.
+fn lent(bytes: &[u8], short: bool) -> &[u8] {
+    match bytes.split_last() {
+        Some((_, front)) if short => front,
+        _ => bytes,
     }
 }
 
-fn collect_answer(answer: CollectAnswer) -> SubmitAnswer {
-    match answer {
-        CollectAnswer::Collected(_) => SubmitAnswer::Done,
-        CollectAnswer::Refused(cause) => SubmitAnswer::Refused(cause),
-    }
-}
-
-fn reset_answer(answer: ResetAnswer) -> SubmitAnswer {
-    match answer {
-        ResetAnswer::Done => SubmitAnswer::Done,
-        ResetAnswer::Refused(cause) => SubmitAnswer::Refused(cause),
-    }
-}
-
-fn reply(answer: SubmitAnswer, hca: Hca) -> SubmitReply {
-    SubmitReply {
-        answer: answer,
-        hca: hca,
-    }
-}
-
-// What the caller keeps is as a submission hands it back: the state, the row and the last answer.
-fn closed() -> SubmittedFront {
-    SubmittedFront {
-        reply: reply(SubmitAnswer::Done, start::closed_state()),
-        row: start::nine_free(),
-    }
-}
-
-fn stepped(hca: Hca, r: SteppedFront) -> SubmittedFront {
-    let answer = r.answer;
-    let row = r.row;
-    SubmittedFront {
-        reply: reply(step_answer(answer), hca),
-        row: row,
-    }
-}
-
-fn collected(hca: Hca, r: CollectedFront) -> SubmittedFront {
-    let answer = r.answer;
-    let row = r.row;
-    SubmittedFront {
-        reply: reply(collect_answer(answer), hca),
-        row: row,
-    }
-}
-
-fn reset_reply(r: ResetReply) -> SubmitReply {
-    let answer = r.answer;
-    let hca = r.hca;
-    reply(reset_answer(answer), hca)
-}
-
-fn resetted(r: ResetFront) -> SubmittedFront {
-    let row = r.row;
-    let answer = r.reply;
-    SubmittedFront {
-        reply: reset_reply(answer),
-        row: row,
-    }
-}
-
-fn command(hca: Hca, row: [Slot; 9], store: &mut [u8], room: &mut [u8], c: Call) -> SubmittedFront {
-    let mut register = [0u8; 28];
-    write_register(&mut register, c);
-    let mut mail = [0u8; 164];
-    write_mailbox(&mut mail, c.but);
-    adapter_front_submits::command_front(
-        hca,
+// What another operation hands back, as a submission does: the numbers of the answers are the same.
+fn handed_back<T: Drop>(
+    answer: Result<T, Refusal>,
+    hca: Hca,
+    row: [Slot; 9],
+) -> FrontAnswer<Reply<Submission>> {
+    FrontAnswer {
+        answer: Reply {
+            answer: answer.map(|_| Submission::Done),
+            hca,
+        },
         row,
-        c.row,
-        store,
-        room,
-        lent(&register, c.but, calls::HCR_27),
-        lent(&mail, c.but, calls::MAILBOX_163),
-    )
+    }
 }
 
-fn collect(hca: Hca, row: [Slot; 9], store: &[u8], room: &[u8], c: Call) -> SubmittedFront {
-    let mut out = [0u8; 384];
-    let n = out_len(c.but);
-    collected(
-        hca,
-        adapter_fronts::collect_front(hca, row, c.row, store, room, c.slot, &mut out[..n]),
-    )
-}
-
-fn perform(hca: Hca, row: [Slot; 9], store: &mut [u8], room: &mut [u8], c: Call) -> SubmittedFront {
-    let what = c.what;
-    match what {
-        calls::COMMAND => {
-            return command(hca, row, store, room, c);
-        }
-        calls::ENGINE => {
-            return adapter_front_submits::engine_front(
-                hca, row, c.row, store, room, c.request, c.index, c.psn, c.state,
-            );
-        }
-        calls::STEP => {
-            return stepped(
+fn perform(
+    hca: Hca,
+    row: [Slot; 9],
+    store: &mut [u8],
+    room: &mut [u8],
+    call: Call,
+) -> FrontAnswer<Reply<Submission>> {
+    match call.operation {
+        Operation::Command {
+            op,
+            op_modifier,
+            in_modifier,
+        } => {
+            let asked = HcrCommand {
+                in_param: 0,
+                in_modifier,
+                out_param: 0,
+                token: 0,
+                event: call.has(Unusual::Event),
+                op_modifier,
+                op,
+            };
+            let register = register_bytes(asked, call);
+            let mail = mailbox_bytes(call);
+            adapter_front_submits::command_front(
                 hca,
-                adapter_fronts::step_front(hca, row, c.row, store, room, c.slot),
+                row,
+                call.row,
+                store,
+                room,
+                lent(&register, call.has(Unusual::Hcr27)),
+                lent(&mail, call.has(Unusual::Mailbox163)),
+            )
+        }
+        Operation::Engine {
+            request,
+            index,
+            psn,
+            state,
+        } => adapter_front_submits::engine_front(
+            hca, row, call.row, store, room, request, index, psn, state,
+        ),
+        Operation::Step(k) => {
+            let done = adapter_fronts::step_front(hca, row, call.row, store, room, k);
+            handed_back(done.answer, hca, done.row)
+        }
+        Operation::Collect(k) => {
+            let mut out = [0u8; OUT];
+            let n = out_len(call);
+            let done = adapter_fronts::collect_front(
+                hca,
+                row,
+                call.row,
+                store,
+                room,
+                k,
+                &mut out[..n],
             );
+            handed_back(done.answer, hca, done.row)
         }
-        calls::COLLECT => {
-            return collect(hca, row, store, room, c);
-        }
-        _ => {
-            return resetted(adapter_fronts::reset_front(hca, row, c.row, store, room));
+        Operation::Reset => {
+            let done = adapter_fronts::reset_front(hca, row, call.row, store, room);
+            handed_back(done.answer.answer, done.answer.hca, done.row)
         }
     }
 }
 
-// Makes the calls of an example, each with what it is lent.
-fn perform_all(script: Script, store: &mut [u8], room: &mut [u8]) -> SubmittedFront
-    requires { (2689 ≤ length store.old) × (3072 ≤ length room.old) }
-{
-    let mut device = closed();
-    for i in 0..script.len() {
-        let call = script.at(i);
-        let s = store_len(call.but);
-        let m = room_len(call.but);
-        let last = device.reply;
-        let row = device.row;
-        device = perform(
-            handed_in(last, call.but),
-            row,
-            &mut store[..s],
-            &mut room[..m],
+impl Device {
+    pub fn closed() -> Device {
+        Device {
+            answer: Ok(Submission::Done),
+            hca: start::closed_state(),
+            row: start::nine_free(),
+            store: [0; STORE],
+            room: [0; ROOM],
+        }
+    }
+
+    // After INIT_HCA.
+    pub fn open() -> Device {
+        Device::closed().then(command(0x07, 0))
+    }
+
+    // With queue pair 7 in RTR.
+    pub fn ready() -> Device {
+        Device::open().whole(0x19, 7).whole(0x1a, 7)
+    }
+
+    // With queue pair 7 in RTS.
+    pub fn sending() -> Device {
+        Device::ready().whole(0x1b, 7)
+    }
+
+    // Makes a call, with what it is lent.
+    pub fn then(mut self, call: Call) -> Device {
+        let hca = if call.has(Unusual::ClosedState) {
+            start::closed_state()
+        } else {
+            self.hca
+        };
+        let s = store_len(call);
+        let m = room_len(call);
+        let done = perform(
+            hca,
+            self.row,
+            &mut self.store[..s],
+            &mut self.room[..m],
             call,
         );
+        let row = done.row;
+        self.answer = done.answer.answer;
+        self.hca = done.answer.hca;
+        self.row = row;
+        self
     }
-    device
-}
 
-fn end_of(last: SubmitReply, word_84: u32) -> Found {
-    let answer = last.answer;
-    Found {
-        number: numbers_returned::submit_number(answer),
-        slot: slot_number(answer),
-        word_84: word_84,
+    pub fn repeat(self, call: Call, times: u32) -> Device {
+        let mut device = self;
+        for _ in 0..times {
+            device = device.then(call);
+        }
+        device
     }
-}
 
-pub fn run(script: Script) -> Found {
-    let mut store = [0u8; 2689];
-    let mut room = [0u8; 3072];
-    let end = perform_all(script, &mut store, &mut room);
-    let last = end.reply;
-    end_of(last, words::read_be32(&store, WORD_84))
+    // A command on a queue pair in slot 0, with its 16 bursts moved and collected.
+    fn whole(self, op: u16, index: u32) -> Device {
+        self.then(command(op, index))
+            .repeat(step(0), 16)
+            .then(collect(0))
+    }
+
+    // Document 01's number for the last answer.
+    pub fn number(&self) -> u8 {
+        numbers_returned::number(self.answer)
+    }
+
+    // The slot of the last acceptance.
+    pub fn slot(&self) -> Option<usize> {
+        match self.answer {
+            Ok(Submission::Accepted(k)) => Some(k),
+            _ => None,
+        }
+    }
+
+    // Word 84h of queue pair 7.
+    pub fn word_84(&self) -> u32 {
+        words::read_be32(&self.store, WORD_84)
+    }
 }

@@ -1,29 +1,32 @@
 // The rows that a record decides: that it is held, which records it names (document 02, wish 2), and its state or owner.
-use crate::calls;
-use crate::calls::{RTR, RTS, SQE, command, open, read, ready, sending, step, write};
+use crate::calls::{Unusual, command, modified, read, step, write};
 use crate::checking::{beside_read, check, in_rtr, while_open};
+use crate::device::Device;
+use edges::State;
 use std::io;
 
 // In RESET the write would get 0x85, but the hold is tested first.
 pub fn holds(rt: &impl Print) -> io::Result<()> {
-    beside_read(rt, b"request 6 on a QP that is read", read(6, 0), 0)?;
+    beside_read(rt, "request 6 on a QP that is read", read(6, 0), 0)?;
     beside_read(
         rt,
-        b"request 3 on a QP that is read",
-        write(3, 0, 0, RTS),
+        "request 3 on a QP that is read",
+        write(3, 0, 0, State::Rts),
         0x81,
     )?;
     check(
         rt,
-        b"request 1 on a QP that is written",
-        ready().then(write(3, 7, 0, RTR)).then(read(1, 7)),
+        "request 1 on a QP that is written",
+        Device::ready()
+            .then(write(3, 7, 0, State::Rtr))
+            .then(read(1, 7)),
         0x81,
     )?;
     check(
         rt,
-        b"request 1 on a QP after the last burst of a write",
-        ready()
-            .then(write(3, 7, 0, RTR))
+        "request 1 on a QP after the last burst of a write",
+        Device::ready()
+            .then(write(3, 7, 0, State::Rtr))
             .repeat(step(0), 2)
             .then(read(1, 7)),
         0,
@@ -32,42 +35,44 @@ pub fn holds(rt: &impl Print) -> io::Result<()> {
 
 // The queue pair's hold, then the completion queue's name and hold, then the event queue's.
 pub fn joined(rt: &impl Print) -> io::Result<()> {
-    while_open(rt, b"request 7 on QP 7", read(7, 7), 0)?;
-    while_open(rt, b"request 7 on QP 8", read(7, 8), 3)?;
+    while_open(rt, "request 7 on QP 7", read(7, 7), 0)?;
+    while_open(rt, "request 7 on QP 8", read(7, 8), 3)?;
     check(
         rt,
-        b"request 7 on a QP that is written",
-        ready().then(write(3, 7, 0, RTR)).then(read(7, 7)),
+        "request 7 on a QP that is written",
+        Device::ready()
+            .then(write(3, 7, 0, State::Rtr))
+            .then(read(7, 7)),
         0x81,
     )?;
     check(
         rt,
-        b"request 7 on a QP that names CQ 4",
-        open()
-            .then(command(0x19, 0).but(calls::CQ_4))
+        "request 7 on a QP that names CQ 4",
+        Device::open()
+            .then(command(0x19, 0).but(Unusual::Cq4))
             .repeat(step(0), 16)
             .then(read(7, 0)),
         3,
     )?;
     check(
         rt,
-        b"request 7 on a QP whose CQ is written",
-        open().then(command(0x16, 0)).then(read(7, 0)),
+        "request 7 on a QP whose CQ is written",
+        Device::open().then(command(0x16, 0)).then(read(7, 0)),
         0x81,
     )?;
     check(
         rt,
-        b"request 7 on a QP whose CQ names EQ 2",
-        open()
-            .then(command(0x16, 0).but(calls::EQ_2))
+        "request 7 on a QP whose CQ names EQ 2",
+        Device::open()
+            .then(command(0x16, 0).but(Unusual::Eq2))
             .repeat(step(0), 4)
             .then(read(7, 0)),
         3,
     )?;
     check(
         rt,
-        b"request 7 on a QP whose EQ is written",
-        open().then(command(0x13, 0)).then(read(7, 0)),
+        "request 7 on a QP whose EQ is written",
+        Device::open().then(command(0x13, 0)).then(read(7, 0)),
         0x81,
     )
 }
@@ -76,47 +81,47 @@ pub fn joined(rt: &impl Print) -> io::Result<()> {
 pub fn joined_holds(rt: &impl Print) -> io::Result<()> {
     check(
         rt,
-        b"0x19 beside request 7 on that QP",
-        open().then(read(7, 0)).then(command(0x19, 0)),
+        "0x19 beside request 7 on that QP",
+        Device::open().then(read(7, 0)).then(command(0x19, 0)),
         0x81,
     )?;
     check(
         rt,
-        b"SW2HW beside request 7 that names that CQ",
-        open().then(read(7, 0)).then(command(0x16, 0)),
+        "SW2HW beside request 7 that names that CQ",
+        Device::open().then(read(7, 0)).then(command(0x16, 0)),
         0x81,
     )?;
     check(
         rt,
-        b"SW2HW beside request 7 that names that EQ",
-        open().then(read(7, 0)).then(command(0x13, 0)),
+        "SW2HW beside request 7 that names that EQ",
+        Device::open().then(read(7, 0)).then(command(0x13, 0)),
         0x81,
     )?;
     check(
         rt,
-        b"SW2HW beside request 7 that names another EQ",
-        open().then(read(7, 0)).then(command(0x13, 1)),
+        "SW2HW beside request 7 that names another EQ",
+        Device::open().then(read(7, 0)).then(command(0x13, 1)),
         0,
     )
 }
 
 pub fn denials(rt: &impl Print) -> io::Result<()> {
-    while_open(rt, b"0x1a in RESET", command(0x1a, 0), 0x85)?;
-    while_open(rt, b"0x1e in RESET", command(0x1e, 0).modified(3), 0x85)?;
-    while_open(rt, b"0x21 in RESET", command(0x21, 0).modified(3), 0x85)?;
-    while_open(rt, b"request 3 in RESET", write(3, 0, 0, RTS), 0x85)?;
+    while_open(rt, "0x1a in RESET", command(0x1a, 0), 0x85)?;
+    while_open(rt, "0x1e in RESET", modified(0x1e, 0, 3), 0x85)?;
+    while_open(rt, "0x21 in RESET", modified(0x21, 0, 3), 0x85)?;
+    while_open(rt, "request 3 in RESET", write(3, 0, 0, State::Rts), 0x85)?;
     in_rtr(
         rt,
-        b"request 3 from RTR to SQE of RC",
-        write(3, 7, 0, SQE),
+        "request 3 from RTR to SQE of RC",
+        write(3, 7, 0, State::Sqe),
         0x85,
     )?;
     check(
         rt,
-        b"request 3 from RTS to SQE of RC",
-        sending().then(write(3, 7, 0, SQE)),
+        "request 3 from RTS to SQE of RC",
+        Device::sending().then(write(3, 7, 0, State::Sqe)),
         0x88,
     )?;
-    while_open(rt, b"SW2HW for MPT 0 of software", command(0x0d, 0), 0)?;
-    while_open(rt, b"HW2SW for MPT 0 of software", command(0x0f, 0), 0x85)
+    while_open(rt, "SW2HW for MPT 0 of software", command(0x0d, 0), 0)?;
+    while_open(rt, "HW2SW for MPT 0 of software", command(0x0f, 0), 0x85)
 }

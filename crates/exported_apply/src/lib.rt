@@ -15,20 +15,15 @@ ghost use Rattle.exported_apply.specs.Applied.{Ready, Placing};
 
 use possible::Hca;
 use requests::Request;
-use rules::Decision;
+use rules::{Decision, Refusal};
 use slots::{Slot, Status};
 
+// A slot's number fits, so that `as` loses nothing.
 fn narrow(k: usize) -> u32
     requires { k < 8 }
     ensures { (result ≡ k) × (result < 8) }
 {
     k as u32
-}
-
-fn wide(n: u8) -> u32
-    ensures { result ≡ n }
-{
-    n as u32
 }
 
 // Slot k takes the request, and its part of the room the mailbox bytes that it needs. The slot's number
@@ -54,15 +49,18 @@ pub fn apply(
     store: &mut [u8],
     room: &mut [u8],
     mail: &[u8],
-    decision: Decision,
+    decision: Result<Decision, Refusal>,
 ) -> u32
     requires { Ready hca dev.old (length store.old) (length room.old) (length mail.now) decision }
     ensures { left result dev.new store.new room.new
         ≡ submit_left dev.old (applied (world_of dev.old store.old room.old)
         mail.now decision) }
 {
+    let decision = match decision {
+        Ok(decision) => decision,
+        Err(cause) => return u32::from(numbers_returned::refusal_number(cause)),
+    };
     match decision {
-        Decision::Refuse(cause) => wide(numbers_returned::refusal_number(cause)),
         Decision::Nothing => {
             device_writers::write_header(dev, hca);
             0

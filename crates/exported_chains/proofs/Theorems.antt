@@ -1,6 +1,6 @@
 -- THE THEOREMS about chains of calls of the exported functions. They assume nothing; the statements are those of `chains`, of this form
 -- of the operations.
-use Rattle.std.specs.Prelude.{◌≡◌, refl, true, List, [], ℕ, ◌*◌, ◌^◌, ◌<◌, length}
+use Rattle.std.specs.Prelude.{◌≡◌, refl, true, List, [], ℕ, ◌*◌, ◌^◌, ◌<◌, length, Result, Ok, Err}
 use Rattle.std.proofs.Common.{sym, ◌∙◌, ap, subst}
 use Rattle.std.proofs.lemmas.Bool.{false≢true}
 use Rattle.words.specs.Words.{AreBytes}
@@ -17,16 +17,11 @@ use Rattle.rules.specs.Resets as resets
 use Rattle.rules.specs.Resets.{reset_of}
 use Rattle.rules.specs.Numbers.{reset_number}
 use Rattle.rules.specs.Frames.{refused_by}
-use Rattle.rules.specs.declared.SubmitAnswer.{SubmitAnswer}
-use Rattle.rules.specs.declared.SubmitAnswer.TheVariants as submit
-use Rattle.rules.specs.declared.StepAnswer.{StepAnswer}
-use Rattle.rules.specs.declared.StepAnswer.TheVariants as step'
-use Rattle.rules.specs.declared.CollectAnswer.{CollectAnswer}
-use Rattle.rules.specs.declared.CollectAnswer.TheVariants as collect
-use Rattle.rules.specs.declared.ResetAnswer.{ResetAnswer}
-use Rattle.rules.specs.declared.ResetAnswer.TheVariants as reset
 use Rattle.rules.specs.Calls.{Call, command, engine_request, step, collection, resetting}
 use Rattle.rules.specs.Calls.{Answer, submitted, stepped, collected, reset_done, answer_to}
+use Rattle.rules.specs.declared.Refusal.{Refusal}
+use Rattle.rules.specs.declared.Submission.{Submission}
+use Rattle.rules.specs.declared.Submission.TheVariants as submit
 use Rattle.device_calls.specs.Calls.{world_of, Left, left, Taken, taken, Emptied, emptied, submit_code, submit_left, command_call, engine_call}
 use Rattle.device_calls.specs.Calls.{step_code, step_left, step_call, collect_code, collect_left, collect_call, reset_left, reset_call}
 use Rattle.device_calls.specs.Calls.{submit_device, step_device, collect_device, reset_device}
@@ -140,23 +135,23 @@ zeroed = (every_form DeviceLink promises).zeroed
 
 -- ---- the bytes themselves
 
-submit_kept : (dev : List ℕ) (a : SubmitAnswer) (w : World) → refused_by (submitted a) ≡ true → submit_device dev a w ≡ dev
-submit_kept dev submit.Done w e = absurd (false≢true e)
-submit_kept dev (submit.Accepted k) w e = absurd (false≢true e)
-submit_kept dev (submit.Refused c) w e = refl
+submit_kept : (dev : List ℕ) (a : Result Submission Refusal) (w : World) → refused_by (submitted a) ≡ true → submit_device dev a w ≡ dev
+submit_kept dev (Ok submit.Done) w e = absurd (false≢true e)
+submit_kept dev (Ok (submit.Accepted k)) w e = absurd (false≢true e)
+submit_kept dev (Err c) w e = refl
 
-step_kept : (dev : List ℕ) (k : ℕ) (a : StepAnswer) (w : World) → refused_by (stepped a) ≡ true → step_device dev k a w ≡ dev
-step_kept dev k (step'.Left n) w e = absurd (false≢true e)
-step_kept dev k (step'.Refused c) w e = refl
+step_kept : (dev : List ℕ) (k : ℕ) (a : Result ℕ Refusal) (w : World) → refused_by (stepped a) ≡ true → step_device dev k a w ≡ dev
+step_kept dev k (Ok n) w e = absurd (false≢true e)
+step_kept dev k (Err c) w e = refl
 
-collect_kept : (dev : List ℕ) (k : ℕ) (a : CollectAnswer) (w : World) (out : List ℕ) → refused_by (collected a out) ≡ true
+collect_kept : (dev : List ℕ) (k : ℕ) (a : Result ℕ Refusal) (w : World) (out : List ℕ) → refused_by (collected a out) ≡ true
     → collect_device dev k a w ≡ dev
-collect_kept dev k (collect.Collected n) w out e = absurd (false≢true e)
-collect_kept dev k (collect.Refused c) w out e = refl
+collect_kept dev k (Ok n) w out e = absurd (false≢true e)
+collect_kept dev k (Err c) w out e = refl
 
-reset_kept : (dev : List ℕ) (a : ResetAnswer) (w : World) → refused_by (reset_done a) ≡ true → reset_device dev a w ≡ dev
-reset_kept dev reset.Done w e = absurd (false≢true e)
-reset_kept dev (reset.Refused c) w e = refl
+reset_kept : (dev : List ℕ) (a : Result (Unit {0}) Refusal) (w : World) → refused_by (reset_done a) ≡ true → reset_device dev a w ≡ dev
+reset_kept dev (Ok tt) w e = absurd (false≢true e)
+reset_kept dev (Err c) w e = refl
 
 device_kept : (c : Call) (b b' : Buffers) (r : ℕ) (o : List ℕ) → Ensured c b r b' o → refused_by (answer_to (world_in b) c) ≡ true
     → b'.device ≡ b.device

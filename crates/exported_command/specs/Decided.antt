@@ -1,18 +1,20 @@
 -- The submission of a command on the device's bytes, as the code makes it.
-use Rattle.std.specs.Prelude.{◌≡◌, Bool, true, false, List, ℕ, ◌≤◌, ◌<◌, ltb, length}
+use Rattle.std.specs.Prelude.{◌≡◌, Bool, true, false, List, ℕ, ◌≤◌, ◌<◌, ltb, length, Result}
 use Rattle.std.proofs.Math.Path.{refl}
 use Rattle.std.proofs.Common.{sym, ◌∙◌, ap}
 use borrow.Author.Tests.{lt-ltb, le-ltb}
 use Rattle.words.specs.Choice.{pick, either}
 use Rattle.hcr.specs.Register.{read_of}
-use Rattle.hcr.specs.declared.ReadAnswer.{ReadAnswer}
+use Rattle.hcr.specs.declared.HcrCommand.{HcrCommand}
+use Rattle.hcr.specs.declared.ReadError.{ReadError}
 use Rattle.slots.specs.declared.Slot.{Slot}
 use Rattle.possible.specs.declared.Hca.{Hca}
-use Rattle.rules.specs.declared.Decision.{Decision}
 use Rattle.rules.specs.World.{World, world, bad_lent, bad_state}
 use Rattle.rules.specs.Admission.{applied}
 use Rattle.rules.specs.Commands.{decide_register, decide_command, submit_command}
 use Rattle.rules.specs.Laws.Decided.{Passing}
+use Rattle.rules.specs.declared.Decision.{Decision}
+use Rattle.rules.specs.declared.Refusal.{Refusal}
 use Rattle.deciding.specs.Ready.{OpenFits, passing_fits}
 use Rattle.applying.specs.Applies.{Applies, command_applies}
 use Rattle.device_bytes.specs.Decoding.{row_of, hca_of}
@@ -25,7 +27,7 @@ module _ (dev store room : List ℕ) (t : Tested dev store room) (h : Hca) (is :
   pub opened_fits : OpenFits h store
   opened_fits = rw is (passing_fits (hca_of dev) (row_of dev) store room t.passing)
 
-  module _ (bytes mail : List ℕ) (row : List Slot) (a : ReadAnswer) (d : Decision) (row_is : row ≡ row_of dev)
+  module _ (bytes mail : List ℕ) (row : List Slot) (a : Result HcrCommand ReadError) (d : Result Decision Refusal) (row_is : row ≡ row_of dev)
       (read : a ≡ read_of bytes) (told : (rm : List ℕ) → d ≡ decide_register (world h row store rm) mail a) where
     pub decided : d ≡ decide_register (world_of dev store room) mail (read_of bytes)
     decided =
@@ -48,7 +50,7 @@ module _ (dev store room : List ℕ) (t : Tested dev store room) (h : Hca) (is :
 
     pub left_decided : (x : Left) → x ≡ submit_left dev (applied (world_of dev store room) mail d)
         → x ≡ submit_left dev (applied (world_of dev store room) mail (decide_register (world_of dev store room) mail (read_of bytes)))
-    left_decided x e = e ∙ ap (λ (y : Decision). submit_left dev (applied (world_of dev store room) mail y)) decided
+    left_decided x e = e ∙ ap (λ (y : Result Decision Refusal). submit_left dev (applied (world_of dev store room) mail y)) decided
 
 either_last : (b : Bool) → either b true ≡ true
 either_last true = refl

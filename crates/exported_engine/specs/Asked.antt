@@ -1,5 +1,5 @@
 -- What the stages of the decision ask for, and that the tests before them give it; what the bytes say of the row, as the decision asks.
-use Rattle.std.specs.Prelude.{◌≡◌, refl, Bool, false, not, List, [], ◌∷◌, ℕ}
+use Rattle.std.specs.Prelude.{◌≡◌, refl, Bool, false, not, List, [], ◌∷◌, ℕ, Option, Some}
 use Rattle.std.proofs.Common.{sym, ◌∙◌, ap, ap₂, subst}
 use Rattle.context.specs.declared.Record.{Record}
 use Rattle.requests.specs.declared.EngineRequest.{EngineRequest}
@@ -7,9 +7,9 @@ use Rattle.requests.specs.declared.EngineRequest.TheVariants as engine
 use Rattle.requests.specs.declared.Request.{Request}
 use Rattle.requests.specs.declared.Request.TheVariants as request
 use Rattle.engines.specs.Engines.{read_engine}
-use Rattle.engines.specs.declared.EngineFound.{EngineFound}
-use Rattle.engines.specs.declared.EngineFound.TheVariants as found
 use Rattle.engines.specs.declared.EngineNumber.{EngineNumber}
+use Rattle.engines.specs.declared.EngineAsked.{EngineAsked}
+use Rattle.engines.specs.declared.EngineAsked.TheVariants as asked
 use Rattle.request_table.specs.Records.{record_of, records_of, writes_of}
 use Rattle.records.specs.Calls.{Stored}
 use Rattle.slots.specs.declared.Slot.{Slot}
@@ -26,7 +26,7 @@ pub record OnOne (h : Hca) (dev store : List ℕ) (q : Request) : Type 0 where
   pub stored : Stored h.logs store q
   pub alone : records_of q ≡ record_of q ∷ []
 
-pub record FoundReady (h : Hca) (dev store : List ℕ) (f : EngineFound) : Type 0 where
+pub record FoundReady (h : Hca) (dev store : List ℕ) (f : Option EngineAsked) : Type 0 where
   pub row : HasRow dev
   pub stored : EngineStored h.logs store f
   pub valid : Valid h.logs f
@@ -43,7 +43,7 @@ one_record (engine.ReadAll n) a = refl
 one_record (engine.Write p s n x) a = refl
 one_record (engine.ReadJoined n c e) a = absurd a
 
-pub on_one_lem : (h : Hca) (dev store : List ℕ) (f : EngineFound) (e : EngineRequest) → FoundReady h dev store f → f ≡ found.OnRecord e
+pub on_one_lem : (h : Hca) (dev store : List ℕ) (f : Option EngineAsked) (e : EngineRequest) → FoundReady h dev store f → f ≡ Some (asked.OnRecord e)
     → OnOne h dev store (request.Engine e)
 on_one_lem h dev store f e r i = record {
   row = r.row;
@@ -51,7 +51,7 @@ on_one_lem h dev store f e r i = record {
   alone = one_record e (subst (Valid h.logs) i r.valid).1;
 }
 
-pub found_ready : (h : Hca) (dev store : List ℕ) (n : EngineNumber) (index psn state : ℕ) (f : EngineFound) → NumberReady h dev store
+pub found_ready : (h : Hca) (dev store : List ℕ) (n : EngineNumber) (index psn state : ℕ) (f : Option EngineAsked) → NumberReady h dev store
     → not h.«open» ≡ false → f ≡ read_engine h.logs n index psn state → FoundReady h dev store f
 found_ready h dev store n index psn state f r o e = record {
   row = r.row;

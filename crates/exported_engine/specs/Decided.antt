@@ -1,15 +1,16 @@
 -- The submission of an engine request on the device's bytes, as the code makes it.
-use Rattle.std.specs.Prelude.{◌≡◌, Bool, true, false, List, [], ℕ, length}
+use Rattle.std.specs.Prelude.{◌≡◌, Bool, true, false, List, [], ℕ, length, Option, Result}
 use Rattle.std.proofs.Math.Path.{refl}
 use Rattle.std.proofs.Common.{sym, ◌∙◌, ap}
 use Rattle.engines.specs.Engines.{read_number}
-use Rattle.engines.specs.declared.NumberFound.{NumberFound}
+use Rattle.engines.specs.declared.EngineNumber.{EngineNumber}
 use Rattle.possible.specs.declared.Hca.{Hca}
-use Rattle.rules.specs.declared.Decision.{Decision}
 use Rattle.rules.specs.World.{World, world, bad_lent, bad_state}
 use Rattle.rules.specs.Admission.{applied}
 use Rattle.rules.specs.Engines.{decide_number, decide_engine, submit_engine}
 use Rattle.rules.specs.Laws.Decided.{Passing}
+use Rattle.rules.specs.declared.Decision.{Decision}
+use Rattle.rules.specs.declared.Refusal.{Refusal}
 use Rattle.deciding.specs.Ready.{passing_fits}
 use Rattle.applying.specs.Applies.{engine_applies}
 use Rattle.device_bytes.specs.Decoding.{row_of, hca_of}
@@ -27,7 +28,7 @@ module _ (dev store room : List ℕ) (t : Tested dev store room) (h : Hca) (is :
     fits = rw is (passing_fits (hca_of dev) (row_of dev) store room t.passing);
   }
 
-  module _ (number index psn state : ℕ) (f : NumberFound) (d : Decision) (found : f ≡ read_number number)
+  module _ (number index psn state : ℕ) (f : Option EngineNumber) (d : Result Decision Refusal) (found : f ≡ read_number number)
       (told : (rm : List ℕ) → d ≡ decide_number (world h (row_of dev) store rm) index psn state f) where
     pub decided : d ≡ decide_number (world_of dev store room) index psn state (read_number number)
     decided =
@@ -49,7 +50,7 @@ module _ (dev store room : List ℕ) (t : Tested dev store room) (h : Hca) (is :
 
     pub left_decided : (x : Left) → x ≡ submit_left dev (applied (world_of dev store room) [] d)
         → x ≡ submit_left dev (applied (world_of dev store room) [] (decide_number (world_of dev store room) index psn state (read_number number)))
-    left_decided x e = e ∙ ap (λ (y : Decision). submit_left dev (applied (world_of dev store room) [] y)) decided
+    left_decided x e = e ∙ ap (λ (y : Result Decision Refusal). submit_left dev (applied (world_of dev store room) [] y)) decided
 
 module _ (dev store room : List ℕ) (number index psn state n : ℕ) (asked : n ≡ first_number dev (length store) (length room)) where
   pub left_refused : ¬ (n ≡ 0) → left n dev store room ≡ engine_call dev store room number index psn state

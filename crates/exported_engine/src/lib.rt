@@ -11,13 +11,13 @@ ghost use Rattle.device_calls.specs.Calls.{world_of, left, submit_left, engine_c
 ghost use Rattle.device_calls.specs.Tests.{Tested};
 ghost use Rattle.exported_engine.specs.Asked.{OnOne, FoundReady, NumberReady};
 
-use engines::{EngineFound, NumberFound};
+use engines::{EngineAsked, EngineNumber};
 use possible::Hca;
 use requests::Request;
 use rules::{Decision, Refusal};
 
 // A request on one record: the device's bytes say what the decision asks of the row.
-fn decide_one(hca: Hca, dev: &[u8], store: &[u8], request: Request) -> Decision
+fn decide_one(hca: Hca, dev: &[u8], store: &[u8], request: Request) -> Result<Decision, Refusal>
     requires { OnOne hca dev.now store.now request }
     ensures { (room : List ℕ) → result ≡ decide_request (world hca (row_of dev.now) store.now room) request [] }
 {
@@ -27,21 +27,28 @@ fn decide_one(hca: Hca, dev: &[u8], store: &[u8], request: Request) -> Decision
         request_kinds::writes(request),
     );
     let free = device_scans::lowest_free(dev);
-    deciding::decide_known(hca, held, free, store, &store[0..0], request)
+    deciding::decide_known(hca, held, free, store, &[], request)
 }
 
 // Index, PSN and state. A joined read asks of three records, one after the other, and is decided on
 // the row.
-fn decide_asked(hca: Hca, dev: &[u8], store: &[u8], found: EngineFound) -> Decision
+fn decide_asked(
+    hca: Hca,
+    dev: &[u8],
+    store: &[u8],
+    found: Option<EngineAsked>,
+) -> Result<Decision, Refusal>
     requires { FoundReady hca dev.now store.now found }
     ensures { (room : List ℕ) → result ≡ decide_asked (world hca (row_of dev.now) store.now room) found }
 {
-    match found {
-        EngineFound::OnRecord(engine) => decide_one(hca, dev, store, Request::Engine(engine)),
-        EngineFound::Joined(n) => {
+    let Some(asked) = found else {
+        return Err(Refusal::BadParameter);
+    };
+    match asked {
+        EngineAsked::OnRecord(engine) => decide_one(hca, dev, store, Request::Engine(engine)),
+        EngineAsked::Joined(n) => {
             deciding_joined::decide_joined(hca, device_readers::read_row(dev), store, n)
         }
-        EngineFound::Wrong => Decision::Refuse(Refusal::BadParameter),
     }
 }
 
@@ -53,26 +60,19 @@ fn decide(
     index: u32,
     psn: u32,
     state: u8,
-    found: NumberFound,
-) -> Decision
+    found: Option<EngineNumber>,
+) -> Result<Decision, Refusal>
     requires { NumberReady hca dev.now store.now }
     ensures { (room : List ℕ) → result ≡ decide_number (world hca (row_of dev.now) store.now room) index psn state found }
 {
-    match found {
-        NumberFound::Served(number) => {
-            if !hca.open {
-                return Decision::Refuse(Refusal::BadSystemState);
-            }
-            let logs = hca.logs;
-            decide_asked(
-                hca,
-                dev,
-                store,
-                engines::read_engine(number, index, psn, state, logs),
-            )
-        }
-        NumberFound::NotServed => Decision::Refuse(Refusal::NotServed),
+    let Some(number) = found else {
+        return Err(Refusal::NotServed);
+    };
+    if !hca.open {
+        return Err(Refusal::BadSystemState);
     }
+    let asked = engines::read_engine(number, index, psn, state, hca.logs);
+    decide_asked(hca, dev, store, asked)
 }
 
 // Decides and applies, on a device that passed the first tests.
@@ -100,8 +100,7 @@ fn submit_tested(
         state,
         engines::read_number(number),
     );
-    let none = [0u8; 0];
-    exported_apply::apply(hca, dev, store, room, &none, decision)
+    exported_apply::apply(hca, dev, store, room, &[], decision)
 }
 
 // Submits an engine request, which has no mailbox.

@@ -17,7 +17,6 @@ use Rattle.records.specs.Calls.{Moving}
 use Rattle.possible.specs.declared.Hca.{Hca}
 use Rattle.rules.specs.World.{World, world, status_at, bad_lent, bad_state}
 use Rattle.rules.specs.Steps.{Stepped, stepped, step_on, step_of}
-use Rattle.rules.specs.declared.StepAnswer.TheVariants as step
 use Rattle.rules.specs.Laws.Decided.{Passing}
 use Rattle.moving.specs.Moves.{moved, burst_moved}
 use Rattle.moving.specs.Steps.{LookedUp, moving, step_made, step_none}

@@ -1,5 +1,5 @@
 -- A step of a request that reads whole records, made on the slot's bytes: what the bytes of such a slot say, and what the step leaves.
-use Rattle.std.specs.Prelude.{◌≡◌, refl, Bool, true, false, eqb, length, get_or, set}
+use Rattle.std.specs.Prelude.{◌≡◌, refl, Bool, true, false, eqb, length, get_or, set, Option, Some, None}
 use Rattle.std.proofs.Common.{sym, ◌∙◌, subst, add-zero, lit<, lit≤}
 use Rattle.std.proofs.Math.Path.{ap}
 use Rattle.std.proofs.lemmas.Bool.{false≢true}
@@ -24,8 +24,6 @@ use Rattle.engines.specs.Engines.{read_number, engine_right}
 use Rattle.engines.proofs.Reading.{engine_found}
 use Rattle.engines.specs.declared.EngineNumber.TheVariants as number
 use Rattle.slot_requests.specs.Requests.{any_index, on_record, command_in}
-use Rattle.slot_requests.specs.declared.RequestFound.{RequestFound}
-use Rattle.slot_requests.specs.declared.RequestFound.TheVariants as found
 use Rattle.request_table.specs.Records.{record_of, records_of, writes_of}
 use Rattle.burst_table.specs.Sizes.{burst_size}
 use Rattle.burst_table.specs.Bursts.{bursts_of, total_of, offset_of}
@@ -92,10 +90,10 @@ head {kind = kind} {number = number} k dev t =
     byte i h = get_or_part (slot_place k) 32 dev i h
 
 -- the request that it has
-abbrev request_from : ℕ → ℕ → ℕ → ℕ → ℕ → ℕ → ℕ → RequestFound
+abbrev request_from : ℕ → ℕ → ℕ → ℕ → ℕ → ℕ → ℕ → Option Request
 request_from kind number n c e psn state =
     pick (eqb kind 0) (command_in (number + 256 * 0) 0 n)
-    (pick (eqb kind 1) (number_held n c e psn state (read_number (number + 256 * 0))) found.Wrong)
+    (pick (eqb kind 1) (number_held n c e psn state (read_number (number + 256 * 0))) None)
 
 request_is : {kind number : ℕ} (b : List ℕ) → Head kind number b
     → request_in b ≡ request_from kind number (le32 8 b) (le32 12 b) (le32 16 b) (le32 20 b) (get_or b 24 0)
@@ -103,21 +101,21 @@ unfolding request_in
 request_is b h = rw (h.kind_is, h.modifier, h.low, h.high)
 
 module _ (n c e psn state : ℕ) (small : n < 2 ^ 32) where
-  all_found : request_from 1 6 n c e psn state ≡ found.Request (qp_read (record { 0 = n }))
+  all_found : request_from 1 6 n c e psn state ≡ Some (qp_read (record { 0 = n }))
   unfolding read_number engine_right
   all_found = ap (engine_held c e) (engine_found any_index number.ReadAll n psn state (rw (lt-ltb n (2 ^ 32) small)))
 
-  joined_found : request_from 1 7 n c e psn state ≡ found.Request (joined_read (record { 0 = n }) (record { 0 = c }) (record { 0 = e }))
+  joined_found : request_from 1 7 n c e psn state ≡ Some (joined_read (record { 0 = n }) (record { 0 = c }) (record { 0 = e }))
   unfolding read_number engine_right
   joined_found = ap (engine_held c e) (engine_found any_index number.ReadJoined n psn state (rw (lt-ltb n (2 ^ 32) small)))
 
-  query_found : request_from 0 0x22 n c e psn state ≡ found.Request (request.Command (command.QueryQp (record { 0 = n })))
+  query_found : request_from 0 0x22 n c e psn state ≡ Some (request.Command (command.QueryQp (record { 0 = n })))
   unfolding read_op command_right
   query_found = ap on_record (command_found any_index op.QueryQp 0 n (rw (lt-ltb n (2 ^ 32) small)))
 
 -- the slot with that request
 runs_it : {kind number : ℕ} (k : ℕ) (dev : List ℕ) → Head kind number (bytes_at k dev) → (q : Request)
-    → request_in (bytes_at k dev) ≡ found.Request q → slot_at k dev ≡ slot (Running (get_or dev (slot_place k + 2) 0) q)
+    → request_in (bytes_at k dev) ≡ Some q → slot_at k dev ≡ slot (Running (get_or dev (slot_place k + 2) 0) q)
 unfolding slot_at status_of
 runs_it k dev h q e = rw (h.status, e, get_or_part (slot_place k) 32 dev 2 (lit< tt))
 
@@ -217,7 +215,7 @@ module _ {h : Hca} {dev store room : List ℕ} {k : ℕ} (r : Ready h dev store 
   -- the bytes give a request that reads what q reads
   reading : (kind number : ℕ) (p : Request) {q : Request} {t : Bool} → t ≡ runs kind number k dev → t ≡ true
       → request_from kind number (le32 (slot_place k + 8) dev) (le32 (slot_place k + 12) dev) (le32 (slot_place k + 16) dev)
-      (le32 20 (bytes_at k dev)) (get_or (bytes_at k dev) 24 0) ≡ found.Request p
+      (le32 20 (bytes_at k dev)) (get_or (bytes_at k dev) 24 0) ≡ Some p
       → Alike p q → Reading h dev store room k (get_or dev (slot_place k + 2) 0) q
   reading kind number p told holds given same =
       let top : Head kind number (bytes_at k dev) = head k dev (sym told ∙ holds) in

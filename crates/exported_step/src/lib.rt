@@ -15,12 +15,6 @@ use context::{CqNumber, EqNumber, QpNumber};
 use possible::Hca;
 use slots::Status;
 
-fn wide(n: u8) -> u32
-    ensures { (result ≡ n) × (result < 256) }
-{
-    n as u32
-}
-
 // A step of slot k of a device that passed the first tests. The slot is read once, and its status and
 // bursts moved alone are written back.
 fn step_slot(hca: Hca, dev: &mut [u8], store: &mut [u8], room: &mut [u8], k: usize) -> u32
@@ -38,7 +32,7 @@ fn step_slot(hca: Hca, dev: &mut [u8], store: &mut [u8], room: &mut [u8], k: usi
     let next = slot.advance();
     let after = next.slot;
     device_writers::write_moved(dev, k, after);
-    256 * wide(next.left)
+    256 * u32::from(next.left)
 }
 
 // Whether slot k runs the request of this kind and number, with the op_modifier 0.
@@ -79,7 +73,7 @@ fn count_burst(dev: &mut [u8], k: usize, m: u8, total: u8) -> u32
     let left = total - m - 1;
     dev[at] = status_with(left);
     dev[at + 2] = m + 1;
-    256 * wide(left)
+    256 * u32::from(left)
 }
 
 // A step of slot k, whose request reads all of queue pair n's record and has moved m bursts.

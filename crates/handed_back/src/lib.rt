@@ -3,39 +3,45 @@
 // slot 0 as it was. What is handed back says of the world afterwards is defined in specs/.
 #![tactic(auto)]
 
+ghost use Rattle.std.specs.Prelude.{◌≡◌};
+ghost use Rattle.handed_back.specs.Handed.{refusal_handed};
+
 use possible::Hca;
-use rules::{CollectAnswer, ResetAnswer, StepAnswer, SubmitAnswer};
+use rules::{Refusal, Submission};
 use slots::Slot;
 
 // Of a submission, with the state.
 #[derive(Drop)]
 pub struct Submitted {
-    pub answer: SubmitAnswer,
+    pub answer: Result<Submission, Refusal>,
     pub hca: Hca,
     pub at: usize,
     pub slot: Slot,
 }
 
-// Of a step.
+// Of a step or a collection.
 #[derive(Drop)]
-pub struct Stepped {
-    pub answer: StepAnswer,
+pub struct HandedBack<T> {
+    pub answer: Result<T, Refusal>,
     pub at: usize,
     pub slot: Slot,
 }
 
-// Of a collection.
-#[derive(Drop)]
-pub struct Collected {
-    pub answer: CollectAnswer,
-    pub at: usize,
-    pub slot: Slot,
+// Of a step or a collection that is refused: no slot changes.
+pub fn refused<T>(row: [Slot; 8], cause: Refusal) -> HandedBack<T>
+    ensures { result ≡ refusal_handed row cause }
+{
+    HandedBack {
+        answer: Err(cause),
+        at: 0,
+        slot: row_slots::slot_at(row, 0),
+    }
 }
 
 // Of a reset, with the state and the whole row.
 #[derive(Drop)]
 pub struct WasReset {
-    pub answer: ResetAnswer,
+    pub answer: Result<(), Refusal>,
     pub hca: Hca,
     pub row: [Slot; 8],
 }

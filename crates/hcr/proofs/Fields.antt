@@ -1,6 +1,7 @@
 -- What shifts and masks make of a word's fields, in the definitions' terms.
 use Rattle.std.specs.Prelude.{◌≡◌, refl, Bool, true, false, ℕ, zero, suc, ◌+◌, ◌-◌, ◌*◌, ◌/◌, ◌%◌, ◌^◌, ◌≤◌, ◌<◌, eqb}
 use Rattle.std.proofs.Common.{sym, ◌∙◌, ap, mod-eq_of_lt, mod-lt, arith, eq-eqb, ne_eqb, lit<, shr-shr}
+use Rattle.std.specs.Int.{from_bool}
 use Rattle.std.specs.Int.Bits.{bit_and, bit_or, or_shifted_r}
 use Rattle.std.proofs.lemmas.Nat.{and_mask}
 use Rattle.std.proofs.Math.Pow.{split}
@@ -69,6 +70,11 @@ told_formed r t w v p q e = ap well_formed18 (sym q) ∙ sym p ∙ e
 
 pub told_below : (r w v : ℕ) → r ≡ bits 15 0 w → w ≡ v → eqb r 0 ≡ eqb (bits 15 0 v) 0
 told_below r w v p q = told_test r (bits 15 0 v) 0 (p ∙ ap (bits 15 0) q)
+
+-- The library's number of a flag is its bit.
+pub bit_is : (e : Bool) → from_bool e ≡ bit e
+bit_is true = refl
+bit_is false = refl
 
 -- Word 18h as the code joins it: op, op_modifier, E and go.
 pub joined18 : (o m b : ℕ) (e : Bool) → b ≡ bit e → o ≤ 0xfff → m < 2 ^ 8

@@ -1,5 +1,5 @@
 -- Reading undoes writing, and writing undoes reading of well-formed bytes (01, The command register).
-use Rattle.std.specs.Prelude.{◌≡◌, refl, Bool, true, List, ℕ, ◌+◌, ◌*◌, ◌/◌, ◌%◌, ◌^◌, ◌≤◌, ◌<◌, eqb, length, get_or}
+use Rattle.std.specs.Prelude.{◌≡◌, refl, true, List, ℕ, ◌+◌, ◌*◌, ◌/◌, ◌%◌, ◌^◌, ◌≤◌, ◌<◌, eqb, length, get_or, Ok}
 use Rattle.std.proofs.Common.{sym, ◌∙◌, ap, zero-le, div-add-mod', div-one, arith, eq-eqb, eqb-true, le-ltb, lit<, lit≤}
 use Rattle.std.proofs.Math.Nat.{div-eq_of_lt}
 use Rattle.words.specs.Choice.{both}
@@ -8,8 +8,6 @@ use Rattle.words.specs.Parts.{part, splice}
 use Rattle.words.proofs.Parts.{length_splice}
 use Rattle.words.specs.Words.{bits, AreBytes, le32}
 use Rattle.hcr.specs.declared.HcrCommand.{HcrCommand}
-use Rattle.hcr.specs.declared.ReadAnswer.TheVariants as reads
-use Rattle.hcr.specs.declared.WriteAnswer.TheVariants as writes
 use Rattle.hcr.specs.Register.{param_at, command_of, well_formed18, well_formed, read_rows, read_of}
 use Rattle.hcr.specs.Register.{word14, word18, words_of, register_of, write_of, written_of}
 use Rattle.hcr.proofs.Fields.{bit_tested, tested_bit, bit_lt, above}
@@ -91,24 +89,24 @@ module _ (c : HcrCommand) (h : List ℕ) (fits : Fits c) (low : c.op ≤ 0xfff) 
 
 -- An op that the register holds is accepted by bytes that are long enough; such bytes, well formed, are read.
 pub accepted : (c : HcrCommand) (h : List ℕ) → 28 ≤ length h → c.op ≤ 0xfff
-    → (write_of c h ≡ writes.Done) × (written_of c h ≡ splice 0 (register_of c) h)
+    → (write_of c h ≡ Ok tt) × (written_of c h ≡ splice 0 (register_of c) h)
 accepted c h p q =
     let a = answers_done c h (splice 0 (register_of c) h) p q refl in
     (sym a.0, sym a.2)
 
-pub read_formed : (h : List ℕ) → 28 ≤ length h → well_formed h ≡ true → read_of h ≡ reads.Command (command_of h)
+pub read_formed : (h : List ℕ) → 28 ≤ length h → well_formed h ≡ true → read_of h ≡ Ok (command_of h)
 unfolding read_rows read_of
 read_formed h p f = rw (le-ltb (length h) 28 p, f)
 
 -- A command that is written and read is the command.
 pub write_read : (c : HcrCommand) (h : List ℕ) → Fits c → c.op ≤ 0xfff → 28 ≤ length h
-    → (write_of c h ≡ writes.Done) × (read_of (written_of c h) ≡ reads.Command c)
+    → (write_of c h ≡ Ok tt) × (read_of (written_of c h) ≡ Ok c)
 write_read c h fits low long =
     let a = accepted c h long low in (
       a.0,
       ap read_of a.1
           ∙ read_formed (splice 0 (register_of c) h) still (formed c h fits low)
-          ∙ ap reads.Command (command_back c h fits low),
+          ∙ ap Ok (command_back c h fits low),
     )
   where
     still : 28 ≤ length (splice 0 (register_of c) h)
@@ -181,7 +179,7 @@ op_again h = omega arith
 
 -- Well-formed bytes that are read and written are the 28 bytes that were read, at the front of any buffer.
 pub read_write : (h out : List ℕ) → AreBytes h → 28 ≤ length h → 28 ≤ length out → well_formed h ≡ true
-    → (read_of h ≡ reads.Command (command_of h)) × (write_of (command_of h) out ≡ writes.Done)
+    → (read_of h ≡ Ok (command_of h)) × (write_of (command_of h) out ≡ Ok tt)
     × (written_of (command_of h) out ≡ splice 0 (part 0 28 h) out)
 read_write h out bytes long room f =
     let a = accepted (command_of h) out room (op_again h) in

@@ -1,5 +1,5 @@
 -- Reading looks at the first 28 bytes alone, and writing changes no others (01, The command register).
-use Rattle.std.specs.Prelude.{◌≡◌, refl, List, ◌++◌, ℕ, ◌+◌, ◌≤◌, ltb, length, drop}
+use Rattle.std.specs.Prelude.{◌≡◌, refl, List, ◌++◌, ℕ, ◌+◌, ◌≤◌, ltb, length, drop, Result, Ok, Err}
 use Rattle.std.proofs.Common.{sym, ◌∙◌, zero-add, arith, lit≤, length-append}
 use Rattle.std.proofs.Math.Path.{ap}
 use borrow.Author.Tests.{ltb-false, le-ltb}
@@ -10,21 +10,21 @@ use Rattle.words.proofs.Parts.{length_part, part_part}
 use Rattle.words.proofs.Tails.{part_left, splice_rest}
 use Rattle.words.specs.Words.{le32, le_value}
 use Rattle.hcr.specs.declared.HcrCommand.{HcrCommand}
-use Rattle.hcr.specs.declared.WriteAnswer.{WriteAnswer}
-use Rattle.hcr.specs.declared.WriteAnswer.TheVariants as writes
 use Rattle.hcr.specs.Register.{param_at, command_of, well_formed, read_rows, read_of, register_of, write_rows, write_of}
 use Rattle.hcr.specs.Register.{bytes_after, written_of}
 use Rattle.hcr.proofs.WordList.{length_register_of}
+use Rattle.hcr.specs.declared.WriteError.{WriteError}
+use Rattle.hcr.specs.declared.WriteError.TheVariants as writeError
 
 module _ (c : HcrCommand) (h : List ℕ) where
   -- what holds of the bytes as they were and with the command at their front holds of what the writer leaves
   by_answer : (P : List ℕ → Type 0) → P h → (28 ≤ length h → P (splice 0 (register_of c) h)) → P (written_of c h)
   unfolding written_of write_of write_rows bytes_after
   by_answer P same done =
-      by_pick (λ (a : WriteAnswer). P (bytes_after a c h)) (ltb (length h) 28)
-      writes.Short (pick (ltb 0xfff c.op) writes.BadOp writes.Done)
+      by_pick (λ (a : Result (Unit {0}) WriteError). P (bytes_after a c h)) (ltb (length h) 28)
+      (Err writeError.Short) (pick (ltb 0xfff c.op) (Err writeError.BadOp) (Ok tt))
       (λ e. same)
-      (λ e. by_pick (λ (a : WriteAnswer). P (bytes_after a c h)) (ltb 0xfff c.op) writes.BadOp writes.Done
+      (λ e. by_pick (λ (a : Result (Unit {0}) WriteError). P (bytes_after a c h)) (ltb 0xfff c.op) (Err writeError.BadOp) (Ok tt)
       (λ f. same)
       (λ f. done (ltb-false (length h) 28 e)))
 

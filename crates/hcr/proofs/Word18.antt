@@ -1,6 +1,6 @@
 -- The words 18h and 14h that are written, field by field (01, The command register). Each law is of any word that is the one written,
 -- so of the definition's, of the one that the code joins, and of the one that stands in the bytes.
-use Rattle.std.specs.Prelude.{◌≡◌, Bool, true, ℕ, ◌+◌, ◌*◌, ◌/◌, ◌%◌, ◌^◌, ◌≤◌, ◌<◌}
+use Rattle.std.specs.Prelude.{◌≡◌, Bool, true, ℕ, ◌^◌, ◌≤◌, ◌<◌}
 use Rattle.std.proofs.Common.{arith, eq-eqb}
 use Rattle.words.proofs.Choice.{both_yes}
 use Rattle.words.specs.Words.{bits}

@@ -1,13 +1,13 @@
 -- What the writer's code leaves behind, in the definitions' terms.
-use Rattle.std.specs.Prelude.{◌≡◌, refl, List, [], ◌∷◌, ◌++◌, ℕ, ◌+◌, ◌*◌, ◌/◌, ◌%◌, ◌^◌, ◌≤◌, ◌<◌, length}
+use Rattle.std.specs.Prelude.{◌≡◌, refl, List, [], ◌∷◌, ◌++◌, ℕ, ◌+◌, ◌*◌, ◌/◌, ◌%◌, ◌^◌, ◌≤◌, ◌<◌, length, Ok, Err}
 use Rattle.std.proofs.Common.{◌∙◌, arith, lt-ltb, le-ltb}
 use Rattle.words.specs.Parts.{splice}
 use Rattle.words.specs.Words.{le_bytes}
 use Rattle.hcr.specs.declared.HcrCommand.{HcrCommand}
-use Rattle.hcr.specs.declared.WriteAnswer.TheVariants as writes
 use Rattle.hcr.specs.Register.{le_words, word14, word18, words_of, register_of, write_rows, write_of, bytes_after}
 use Rattle.hcr.specs.Register.{written_of, write_answer_number}
 use Rattle.hcr.proofs.WordList.{one_word, words_more}
+use Rattle.hcr.specs.declared.WriteError.TheVariants as writeError
 
 -- One word right behind the words us: m is the list before it.
 word_more : (at : ℕ) (us : List ℕ) (w : ℕ) (l m : List ℕ) → m ≡ splice at (le_words us) l → at + 4 * length us ≤ length l
@@ -61,16 +61,16 @@ seven_words c t w l m₁ m₂ m₃ m₄ o e₁₈ p e₁₄ q e₀c e₀₈ e₀
 
 -- The writer's three answers, each with its number and the bytes that it leaves.
 pub answers_short : (c : HcrCommand) (h : List ℕ) → length h < 28
-    → (writes.Short ≡ write_of c h) × (write_answer_number writes.Short ≡ write_rows c h 0x83 3 0) × (h ≡ written_of c h)
+    → (Err writeError.Short ≡ write_of c h) × (write_answer_number (Err writeError.Short) ≡ write_rows c h 0x83 3 0) × (h ≡ written_of c h)
 unfolding write_rows write_of written_of bytes_after
 answers_short c h p = rw (lt-ltb (length h) 28 p) (refl, refl, refl)
 
 pub answers_bad_op : (c : HcrCommand) (h : List ℕ) → 28 ≤ length h → 0xfff < c.op
-    → (writes.BadOp ≡ write_of c h) × (write_answer_number writes.BadOp ≡ write_rows c h 0x83 3 0) × (h ≡ written_of c h)
+    → (Err writeError.BadOp ≡ write_of c h) × (write_answer_number (Err writeError.BadOp) ≡ write_rows c h 0x83 3 0) × (h ≡ written_of c h)
 unfolding write_rows write_of written_of bytes_after
 answers_bad_op c h p q = rw (le-ltb (length h) 28 p, lt-ltb 0xfff c.op q) (refl, refl, refl)
 
 pub answers_done : (c : HcrCommand) (h after : List ℕ) → 28 ≤ length h → c.op ≤ 0xfff → after ≡ splice 0 (register_of c) h
-    → (writes.Done ≡ write_of c h) × (write_answer_number writes.Done ≡ write_rows c h 0x83 3 0) × (after ≡ written_of c h)
+    → (Ok tt ≡ write_of c h) × (write_answer_number (Ok tt) ≡ write_rows c h 0x83 3 0) × (after ≡ written_of c h)
 unfolding write_rows write_of written_of bytes_after
 answers_done c h after p q e = rw (le-ltb (length h) 28 p, le-ltb 0xfff c.op q) (refl, refl, e)

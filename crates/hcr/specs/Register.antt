@@ -1,13 +1,13 @@
 -- The command register on lists of bytes (01, The command register; layout and numbers).
-use Rattle.std.specs.Prelude.{Bool, true, false, List, [], ◌∷◌, ◌++◌, ℕ, ◌+◌, ◌*◌, ◌/◌, ◌%◌, ◌^◌, eqb, ltb, length}
+use Rattle.std.specs.Prelude.{Bool, true, false, List, [], ◌∷◌, ◌++◌, ℕ, ◌+◌, ◌*◌, ◌/◌, ◌%◌, ◌^◌, eqb, ltb, length, Result, Ok, Err}
 use Rattle.words.specs.Choice.{pick, both}
 use Rattle.words.specs.Parts.{splice}
 use Rattle.words.specs.Words.{bits, le32, le_bytes}
 use Rattle.hcr.specs.declared.HcrCommand.{HcrCommand}
-use Rattle.hcr.specs.declared.ReadAnswer.{ReadAnswer}
-use Rattle.hcr.specs.declared.ReadAnswer.TheVariants as reads
-use Rattle.hcr.specs.declared.WriteAnswer.{WriteAnswer}
-use Rattle.hcr.specs.declared.WriteAnswer.TheVariants as writes
+use Rattle.hcr.specs.declared.ReadError.{ReadError}
+use Rattle.hcr.specs.declared.WriteError.{WriteError}
+use Rattle.hcr.specs.declared.ReadError.TheVariants as readError
+use Rattle.hcr.specs.declared.WriteError.TheVariants as writeError
 
 -- A flag as the bit that stands for it.
 abbrev pub bit : Bool → ℕ
@@ -45,8 +45,8 @@ unfoldable pub read_rows : {A : Type 0} → List ℕ → A → A → A → A
 read_rows h short malformed command = pick (ltb (length h) 28) short (pick (well_formed h) command malformed)
 
 -- Reading gives E as it stands, set or not; that a set E is refused is a rule of submission (01, The command register).
-unfoldable pub read_of : List ℕ → ReadAnswer
-read_of h = read_rows h reads.Short reads.Malformed (reads.Command (command_of h))
+unfoldable pub read_of : List ℕ → Result HcrCommand ReadError
+read_of h = read_rows h (Err readError.Short) (Err readError.Malformed) (Ok (command_of h))
 
 -- Word 14h of a command: the token in 31:16, 0 below it (01, The command register).
 abbrev pub word14 : ℕ → ℕ
@@ -81,25 +81,25 @@ register_of c = le_words (words_of c)
 unfoldable pub write_rows : {A : Type 0} → HcrCommand → List ℕ → A → A → A → A
 write_rows c h short bad-op done = pick (ltb (length h) 28) short (pick (ltb 0xfff c.op) bad-op done)
 
-unfoldable pub write_of : HcrCommand → List ℕ → WriteAnswer
-write_of c h = write_rows c h writes.Short writes.BadOp writes.Done
+unfoldable pub write_of : HcrCommand → List ℕ → Result (Unit {0}) WriteError
+write_of c h = write_rows c h (Err writeError.Short) (Err writeError.BadOp) (Ok tt)
 
 -- What the lent bytes hold after an answer: the command in the first 28, or after a refusal what they held (01, Numbers returned).
-unfoldable pub bytes_after : WriteAnswer → HcrCommand → List ℕ → List ℕ
-bytes_after writes.Done c h = splice 0 (register_of c) h
-bytes_after writes.Short c h = h
-bytes_after writes.BadOp c h = h
+unfoldable pub bytes_after : Result (Unit {0}) WriteError → HcrCommand → List ℕ → List ℕ
+bytes_after (Ok tt) c h = splice 0 (register_of c) h
+bytes_after (Err writeError.Short) c h = h
+bytes_after (Err writeError.BadOp) c h = h
 
 unfoldable pub written_of : HcrCommand → List ℕ → List ℕ
 written_of c h = bytes_after (write_of c h) c h
 
 -- 01's number for each answer (01, Numbers returned).
-abbrev pub read_answer_number : ReadAnswer → ℕ
-read_answer_number (reads.Command c) = 0
-read_answer_number reads.Short = 0x83
-read_answer_number reads.Malformed = 3
+abbrev pub read_answer_number : Result HcrCommand ReadError → ℕ
+read_answer_number (Ok c) = 0
+read_answer_number (Err readError.Short) = 0x83
+read_answer_number (Err readError.Malformed) = 3
 
-abbrev pub write_answer_number : WriteAnswer → ℕ
-write_answer_number writes.Done = 0
-write_answer_number writes.Short = 0x83
-write_answer_number writes.BadOp = 3
+abbrev pub write_answer_number : Result (Unit {0}) WriteError → ℕ
+write_answer_number (Ok tt) = 0
+write_answer_number (Err writeError.Short) = 0x83
+write_answer_number (Err writeError.BadOp) = 3

@@ -14,20 +14,18 @@ pub struct HcrCommand {
     pub op: u16,
 }
 
-// What reading gives.
-#[derive(Drop)]
-pub enum ReadAnswer {
-    Command(HcrCommand),
+// Why a register has no command.
+#[derive(Clone, Copy, Debug, PartialEq, Eq)]
+pub enum ReadError {
     // Fewer than 28 bytes.
     Short,
     // Not well formed.
     Malformed,
 }
 
-// What writing gives.
-#[derive(Drop)]
-pub enum WriteAnswer {
-    Done,
+// Why a command is not written.
+#[derive(Clone, Copy, Debug, PartialEq, Eq)]
+pub enum WriteError {
     // Fewer than 28 bytes.
     Short,
     // An op above 0xfff, for which the register has no room.

@@ -5,9 +5,10 @@ ghost use Rattle.std.specs.Prelude.{◌≡◌, ◌+◌, ◌*◌, ◌^◌, ◌≤
 ghost use Rattle.words.specs.Words.{bits};
 ghost use Rattle.hcr.specs.Register.{param_at, command_of, read_rows, read_of, read_answer_number};
 
-use hcr::{HcrCommand, ReadAnswer};
+use hcr::{HcrCommand, ReadError};
 
-// The fields of word 18h.
+// The fields of word 18h. What is narrowed is masked, so that `as` loses nothing; `try_from` would answer
+// an error that cannot occur.
 fn event_of(w: u32) -> u32
     ensures { result ≡ bits 22 22 w }
 {
@@ -37,7 +38,7 @@ fn token_of(w: u32) -> u16
 fn join_param(high: u32, low: u32) -> u64
     ensures { result ≡ high * 2 ^ 32 + low }
 {
-    low as u64 | (high as u64) << 32
+    u64::from(low) | u64::from(high) << 32
 }
 
 fn read_param(hcr: &[u8], at: usize) -> u64
@@ -65,14 +66,14 @@ fn command_of(hcr: &[u8]) -> HcrCommand
 
 // The command in the register's first 28 bytes (01, The command register). The contract has the
 // answer and 01's number for it.
-pub fn read(hcr: &[u8]) -> ReadAnswer
+pub fn read(hcr: &[u8]) -> Result<HcrCommand, ReadError>
     ensures { (result ≡ read_of hcr.now) × (read_answer_number result ≡ read_rows hcr.now 0x83 3 0) }
 {
     if hcr.len() < 28 {
-        return ReadAnswer::Short;
+        return Err(ReadError::Short);
     }
     if !hcr_checks::well_formed(hcr) {
-        return ReadAnswer::Malformed;
+        return Err(ReadError::Malformed);
     }
-    ReadAnswer::Command(command_of(hcr))
+    Ok(command_of(hcr))
 }

@@ -3,22 +3,16 @@
 
 ghost use Rattle.std.specs.Prelude.{◌≡◌, ◌+◌, ◌/◌, ◌%◌, ◌^◌, ◌≤◌, ◌∷◌, [], length};
 ghost use Rattle.words.specs.Parts.{splice};
-ghost use Rattle.hcr.specs.Register.{bit, le_words, word14, word18, register_of, write_rows, write_of, written_of};
+ghost use Rattle.hcr.specs.Register.{le_words, word14, word18, register_of, write_rows, write_of, written_of};
 ghost use Rattle.hcr.specs.Register.{write_answer_number};
 
-use hcr::{HcrCommand, WriteAnswer};
+use hcr::{HcrCommand, WriteError};
 
 // Word 14h of a command.
 fn join_14(token: u16) -> u32
     ensures { result ≡ word14 token }
 {
-    (token as u32) << 16
-}
-
-fn bit_of(b: bool) -> u32
-    ensures { result ≡ bit b }
-{
-    if b { 1 } else { 0 }
+    u32::from(token) << 16
 }
 
 // Word 18h of a command: go is 1, status is 0.
@@ -26,10 +20,10 @@ fn join_18(event: bool, op_modifier: u8, op: u16) -> u32
     requires { op ≤ 0xfff }
     ensures { result ≡ word18 event op_modifier op }
 {
-    op as u32 | (op_modifier as u32) << 12 | bit_of(event) << 22 | 1 << 23
+    u32::from(op) | u32::from(op_modifier) << 12 | u32::from(event) << 22 | 1 << 23
 }
 
-// The two words of a 64-bit parameter.
+// The two words of a 64-bit parameter: each fits, so that `as` loses nothing.
 fn high_of(v: u64) -> u32
     ensures { result ≡ v / 2 ^ 32 }
 {
@@ -62,16 +56,16 @@ fn write_words(hcr: &mut [u8], c: HcrCommand)
 }
 
 // Writes a command to the register's first 28 bytes (01, The command register).
-pub fn write(hcr: &mut [u8], c: HcrCommand) -> WriteAnswer
+pub fn write(hcr: &mut [u8], c: HcrCommand) -> Result<(), WriteError>
     ensures { (result ≡ write_of c hcr.old) × (write_answer_number result ≡ write_rows c hcr.old 0x83 3 0)
         × (hcr.new ≡ written_of c hcr.old) }
 {
     if hcr.len() < 28 {
-        return WriteAnswer::Short;
+        return Err(WriteError::Short);
     }
     if c.op > 0xfff {
-        return WriteAnswer::BadOp;
+        return Err(WriteError::BadOp);
     }
     write_words(hcr, c);
-    WriteAnswer::Done
+    Ok(())
 }

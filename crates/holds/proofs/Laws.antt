@@ -20,7 +20,7 @@ use Rattle.slots.specs.declared.Slot.{Slot}
 use Rattle.slots.specs.declared.Status.{Status}
 use Rattle.slots.specs.declared.Status.TheVariants.{Free, Running, Finished}
 use Rattle.rows.specs.Rows.{any_slot}
-use Rattle.rows.proofs.Every.{at, None, none_each, each_none}
+use Rattle.rows.proofs.Every.{at, NoneOf, none_each, each_none}
 use Rattle.holds.specs.Holds.{clash_pair, clash_records, clash_status, clash_slot, held_against, read_held}
 
 both_either : (p q w : Bool) → either (both p w) (both q w) ≡ both (either p q) w
@@ -56,7 +56,7 @@ unfolding held_against any_slot
 held_finished q r m = refl
 
 -- no record is held against a request: no slot holds one
-pub held_each : (row : List Slot) (q : Request) → held_against row q ≡ false → None (clash_slot (writes_of q) (records_of q)) row
+pub held_each : (row : List Slot) (q : Request) → held_against row q ≡ false → NoneOf (clash_slot (writes_of q) (records_of q)) row
 unfolding held_against
 held_each row q e = none_each (clash_slot (writes_of q) (records_of q)) row refl e
 

@@ -1,5 +1,5 @@
 -- The device's answers: occupied slots by their first bytes, and what each way out says of the state and the row that the bytes have.
-use Rattle.std.specs.Prelude.{◌≡◌, Bool, true, false, not, List, ℕ, ◌+◌, ◌*◌, ◌≤◌, ◌<◌, eqb, length}
+use Rattle.std.specs.Prelude.{◌≡◌, Bool, true, false, not, List, ℕ, ◌+◌, ◌*◌, ◌≤◌, ◌<◌, eqb, length, Option, Some, None}
 use Rattle.std.proofs.Math.Path.{refl, ap}
 use Rattle.std.proofs.Common.{sym, ◌∙◌, add-zero, arith, lit<}
 use Rattle.std.proofs.lemmas.Bool.{false≢true}
@@ -18,23 +18,22 @@ use Rattle.slot_checks.specs.SlotChecks.{slot_wrong}
 use Rattle.possible.specs.Possible.{open_impossible, impossible}
 use Rattle.possible.proofs.Rows.{open_row}
 use Rattle.possible.specs.declared.Hca.{Hca}
-use Rattle.slot_requests.specs.declared.RequestFound.{RequestFound}
-use Rattle.slot_requests.specs.declared.RequestFound.TheVariants.{Request, Wrong}
 use Rattle.device_bytes.specs.Decoding.{slot_place, request_in, broken, status_held, status_of, slot_at, slots_of, row_of}
 use Rattle.device_bytes.proofs.Walks.{get_or_slots, skip_slots}
 use Rattle.slot_judging.specs.Laws.{broken_wrong}
 use Rattle.judging.specs.Judging.{slots_impossible, open_device}
+use Rattle.requests.specs.declared.Request.{Request}
 
 -- ---- occupied slots
 
-held_occupied : (code m : ℕ) (f : RequestFound) → occupied_status (status_held code m f) ≡ true
-held_occupied code m (Request q) = go (eqb code 1) (eqb code 2)
+held_occupied : (code m : ℕ) (f : Option Request) → occupied_status (status_held code m f) ≡ true
+held_occupied code m (Some q) = go (eqb code 1) (eqb code 2)
   where
     go : (a b : Bool) → occupied_status (pick a (Running m q) (pick b (Finished m q) broken)) ≡ true
     go true b = refl
     go false true = refl
     go false false = refl
-held_occupied code m Wrong = refl
+held_occupied code m None = refl
 
 module _ (dev : List ℕ) where
   pub occupied_none : any_slot is_occupied (slots_of 0 dev) ≡ false

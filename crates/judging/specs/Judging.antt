@@ -1,5 +1,5 @@
 -- What the scan over a device's bytes asks.
-use Rattle.std.specs.Prelude.{Bool, List, [], ◌∷◌, ℕ}
+use Rattle.std.specs.Prelude.{Bool, List, [], ◌∷◌, ℕ, Option}
 use Rattle.words.specs.Choice.{either}
 use Rattle.words.specs.Parts.{part}
 use Rattle.context.specs.declared.Logs.{Logs}
@@ -14,8 +14,8 @@ use Rattle.hold_codes.specs.declared.Hold.{Hold}
 use Rattle.slot_judging.specs.Judging.{judged_of}
 use Rattle.slot_judging.specs.declared.Judged.{Judged}
 
--- slot k, which is occupied
-unfoldable pub judged_at : Logs → ℕ → List ℕ → Judged
+-- slot k, which is occupied: None where it is wrong
+unfoldable pub judged_at : Logs → ℕ → List ℕ → Option Judged
 judged_at g k dev = judged_of g (part (slot_place k) 32 dev)
 
 -- what each slot holds

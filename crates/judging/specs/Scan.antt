@@ -1,8 +1,9 @@
 -- The scan over the bytes of the slots: what is known of the first k slots, and what each test says of all.
-use Rattle.std.specs.Prelude.{◌≡◌, Bool, true, false, List, ℕ, ◌+◌, ◌-◌, ◌*◌, ◌≤◌, ◌<◌, get_or, set, replicate, take, drop}
+use Rattle.std.specs.Prelude.{◌≡◌, Bool, true, false, List, ℕ, ◌+◌, ◌-◌, ◌*◌, ◌≤◌, ◌<◌, get_or, set, replicate, take, drop, Option, Some, None}
 use Rattle.std.proofs.Math.Path.{refl, ap}
 use Rattle.std.proofs.Common.{sym, ◌∙◌, ap₂, add-zero, arith, lit<}
 use Rattle.std.proofs.lemmas.Bool.{false≢true}
+use Rattle.std.specs.Option.{is_none}
 use Rattle.std.proofs.Math.Decide.{dec_lt}
 use Rattle.std.proofs.Math.Nat.{add-sub_cancel_left}
 use Rattle.words.specs.Choice.{both, either}
@@ -41,15 +42,15 @@ module _ (g : Logs) (k : ℕ) (dev : List ℕ) (some : ¬ (get_or dev (32 + k * 
   first e =
       some (sym (get_or_part (slot_place k) 32 dev 0 (lit< tt) ∙ ap (λ (i : ℕ). get_or dev i 0) (add-zero (slot_place k))) ∙ e)
 
-  at_wrong : (judged_at g k dev).wrong ≡ slot_wrong g (slot_at k dev)
+  at_wrong : is_none (judged_at g k dev) ≡ slot_wrong g (slot_at k dev)
   unfolding judged_at slot_at
   at_wrong = judged_wrong g (part (slot_place k) 32 dev) first
 
-  at_command : (judged_at g k dev).wrong ≡ false → (judged_at g k dev).command ≡ has_command (slot_at k dev)
+  at_command : (j : Judged) → judged_at g k dev ≡ Some j → j.command ≡ has_command (slot_at k dev)
   unfolding judged_at slot_at
   at_command = judged_command g (part (slot_place k) 32 dev) first
 
-  at_hold : (judged_at g k dev).wrong ≡ false → (judged_at g k dev).hold ≡ hold_of (slot_at k dev)
+  at_hold : (j : Judged) → judged_at g k dev ≡ Some j → j.hold ≡ hold_of (slot_at k dev)
   unfolding judged_at slot_at
   at_hold = judged_hold g (part (slot_place k) 32 dev) first
 
@@ -154,32 +155,30 @@ seen_more c b d e f i = record { counted = i ∙ rw (e, f); lone = rw f }
 pub seen_same : (c b d : Bool) → b ≡ false → d ≡ c → Seen c b d
 seen_same c b d e i = record { counted = i ∙ rw e (sym (either_false c)); lone = both_false c b e }
 
--- ---- as the code has them: j is what is judged of slot k
+-- ---- as the code has them: o is what is judged of slot k
 
-module _ (g : Logs) (dev : List ℕ) (k : ℕ) (holds : List Hold) (c : Bool) (j : Judged) (h : k < 8) (p : Passed g dev k holds c)
-    (some : ¬ (get_or dev (32 + k * 32) 0 ≡ 0)) (e : j ≡ judged_at g k dev) where
-  is_wrong : j.wrong ≡ slot_wrong g (slot_at k dev)
-  is_wrong = ap (λ (x : Judged). x.wrong) e ∙ at_wrong g k dev some
+module _ (g : Logs) (dev : List ℕ) (k : ℕ) (holds : List Hold) (c : Bool) (o : Option Judged) (h : k < 8) (p : Passed g dev k holds c)
+    (some : ¬ (get_or dev (32 + k * 32) 0 ≡ 0)) (e : o ≡ judged_at g k dev) where
+  is_wrong : is_none o ≡ slot_wrong g (slot_at k dev)
+  is_wrong = ap is_none e ∙ at_wrong g k dev some
 
-  right_at : j.wrong ≡ false → (judged_at g k dev).wrong ≡ false
-  right_at f = sym (ap (λ (x : Judged). x.wrong) e) ∙ f
+  pub wrong_told : o ≡ None → true ≡ slots_impossible g (slots_of 8 dev)
+  wrong_told f = bad_found g dev k h holds c p (sym is_wrong ∙ ap is_none f)
 
-  is_command_lem : j.wrong ≡ false → j.command ≡ has_command (slot_at k dev)
-  is_command_lem f = ap (λ (x : Judged). x.command) e ∙ at_command g k dev some (right_at f)
+  -- it is not wrong
+  module _ (j : Judged) (right : o ≡ Some j) where
+    is_command_lem : j.command ≡ has_command (slot_at k dev)
+    is_command_lem = at_command g k dev some j (sym e ∙ right)
 
-  is_hold : j.wrong ≡ false → j.hold ≡ hold_of (slot_at k dev)
-  is_hold f = ap (λ (x : Judged). x.hold) e ∙ at_hold g k dev some (right_at f)
+    is_hold : j.hold ≡ hold_of (slot_at k dev)
+    is_hold = at_hold g k dev some j (sym e ∙ right)
 
-  pub wrong_told : j.wrong ≡ true → true ≡ slots_impossible g (slots_of 8 dev)
-  wrong_told f = bad_found g dev k h holds c p (sym is_wrong ∙ f)
-
-  module _ (right : j.wrong ≡ false) where
     pub second_told : j.command ≡ true → c ≡ true → true ≡ slots_impossible g (slots_of 8 dev)
-    second_told f i = command_found g dev k h holds c p (both_yes c (has_command (slot_at k dev)) i (sym (is_command_lem right) ∙ f))
+    second_told f i = command_found g dev k h holds c p (both_yes c (has_command (slot_at k dev)) i (sym is_command_lem ∙ f))
 
     meets : (i : ℕ) → holds_meet j.hold (get_or holds i no_hold) ≡ slots_clash (slot_at k dev) (at (slots_of k dev) i)
     meets i =
-        ap₂ holds_meet (is_hold right) (ap (λ (l : List Hold). get_or l i no_hold) p.rows ∙ holds_at (slots_of k dev) i)
+        ap₂ holds_meet is_hold (ap (λ (l : List Hold). get_or l i no_hold) p.rows ∙ holds_at (slots_of k dev) i)
         ∙ meet_is (slot_at k dev) (at (slots_of k dev) i)
 
     pub clash_told : (i : ℕ) (d : Bool) → i < k → d ≡ holds_meet j.hold (get_or holds i no_hold) → d ≡ true
@@ -190,8 +189,8 @@ module _ (g : Logs) (dev : List ℕ) (k : ℕ) (holds : List Hold) (c : Bool) (j
         → ((m : ℕ) → m < i → holds_meet j.hold (get_or holds m no_hold) ≡ false) → k ≤ i
         → Passed g dev (k + 1) (set holds k j.hold) d
     more_told i d n a l =
-        rw (n.counted, is_hold right, is_command_lem right)
-        (passed_more g dev k h holds c p (sym is_wrong ∙ right) (ap (both c) (sym (is_command_lem right)) ∙ n.lone)
+        rw (n.counted, is_hold, is_command_lem)
+        (passed_more g dev k h holds c p (sym is_wrong ∙ ap is_none right) (ap (both c) (sym is_command_lem) ∙ n.lone)
         (λ m y. sym (meets m) ∙ a m (omega arith)))
 
 -- a test that fails of the first j numbers, and of the next
@@ -206,7 +205,7 @@ clear_told f j b h e i m l = go (dec_lt m j)
         ap f z ∙ sym e ∙ i
 
 -- the bytes that are lent for slot k
-pub at_told : (g : Logs) (k : ℕ) (dev : List ℕ) (j : Judged)
-    → j ≡ judged_of g (take (32 + k * 32 + 32 - (32 + k * 32)) (drop (32 + k * 32) dev)) → j ≡ judged_at g k dev
+pub at_told : (g : Logs) (k : ℕ) (dev : List ℕ) (o : Option Judged)
+    → o ≡ judged_of g (take (32 + k * 32 + 32 - (32 + k * 32)) (drop (32 + k * 32) dev)) → o ≡ judged_at g k dev
 unfolding judged_at part
-at_told g k dev j e = e ∙ rw add-sub_cancel_left
+at_told g k dev o e = e ∙ rw add-sub_cancel_left

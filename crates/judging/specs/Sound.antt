@@ -5,10 +5,10 @@ use Rattle.std.proofs.Common.{◌∙◌, ap, arith}
 use Rattle.words.specs.Choice.{either}
 use Rattle.words.proofs.Tests.{neither_left, neither_right, neither, either_swap, either_assoc}
 use Rattle.context.specs.declared.Logs.{Logs}
-use Rattle.slots.specs.Slots.{slot, has_command}
+use Rattle.slots.specs.Slots.{has_command}
 use Rattle.slots.specs.declared.Slot.{Slot}
 use Rattle.rows.specs.Rows.{any_slot, empty_row}
-use Rattle.rows.proofs.Every.{at, None, NoTwo, none_each, each_none, none_set, pairs_set}
+use Rattle.rows.proofs.Every.{at, NoneOf, NoTwo, none_each, each_none, none_set, pairs_set}
 use Rattle.slot_checks.specs.SlotChecks.{slot_wrong}
 use Rattle.possible.specs.Possible.{two_commands, both_commands, slots_clash}
 use Rattle.possible.proofs.Pairs.{commands_swap, commands_pairs, pairs_commands, clashes_swap, clashes_pairs, pairs_clashes}
@@ -18,7 +18,7 @@ use Rattle.hold_codes.specs.declared.Hold.{Hold}
 use Rattle.judging.specs.Judging.{holds_row, slots_impossible}
 
 pub record Sound (g : Logs) (row : List Slot) : Type 0 where
-  pub right : None (slot_wrong g) row
+  pub right : NoneOf (slot_wrong g) row
   pub commands : NoTwo both_commands row
   pub holds : NoTwo slots_clash row
 

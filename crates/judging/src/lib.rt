@@ -13,8 +13,8 @@ use context::Logs;
 use possible::Hca;
 use slot_judging::Judged;
 
-// Slot k, which is occupied.
-fn judge_at(logs: Logs, dev: &[u8], k: usize) -> Judged
+// Slot k, which is occupied: None where it is wrong.
+fn judge_at(logs: Logs, dev: &[u8], k: usize) -> Option<Judged>
     requires { (k < 8) × (length dev.now ≡ 288) }
     ensures { result ≡ judged_at logs k dev.now }
 {
@@ -38,10 +38,9 @@ fn slots_impossible(logs: Logs, dev: &[u8]) -> bool
         if dev[32 + i * 32] == 0 {
             continue;
         }
-        let judged = judge_at(logs, dev, i);
-        if judged.wrong {
+        let Some(judged) = judge_at(logs, dev, i) else {
             return true;
-        }
+        };
         if judged.command {
             if seen {
                 return true;

@@ -3,18 +3,11 @@
 #![tactic(auto)]
 
 use possible::Hca;
-use rules::{ResetAnswer, SubmitAnswer};
+use rules::Refusal;
 
-// Of a submission.
-#[derive(Drop)]
-pub struct SubmitReply {
-    pub answer: SubmitAnswer,
-    pub hca: Hca,
-}
-
-// Of a reset.
-#[derive(Drop)]
-pub struct ResetReply {
-    pub answer: ResetAnswer,
+// Of a submission or a reset.
+#[derive(Clone, Copy)]
+pub struct Reply<T> {
+    pub answer: Result<T, Refusal>,
     pub hca: Hca,
 }

@@ -8,7 +8,7 @@ ghost use Rattle.rules.specs.Calls as calls;
 ghost use Rattle.handed_back.specs.Handed.{collect_handed};
 ghost use Rattle.chains.specs.Links.{Link};
 
-use handed_back::Collected;
+use handed_back::HandedBack;
 use possible::Hca;
 use slots::Slot;
 
@@ -20,7 +20,7 @@ pub fn collect(
     room: &[u8],
     k: usize,
     out: &mut [u8],
-) -> Collected
+) -> HandedBack<usize>
     ensures { Link (world hca row store.now room.now)
         (calls.collection k out.old) (calls.collected result.answer out.new)
         (collect_handed hca row store.now room.now out.new result).world }

@@ -8,12 +8,12 @@ ghost use Rattle.rules.specs.Calls as calls;
 ghost use Rattle.handed_back.specs.Handed.{step_handed};
 ghost use Rattle.chains.specs.Links.{Link};
 
-use handed_back::Stepped;
+use handed_back::HandedBack;
 use possible::Hca;
 use slots::Slot;
 
 // One burst of the request in slot k.
-pub fn step(hca: Hca, row: [Slot; 8], store: &mut [u8], room: &mut [u8], k: usize) -> Stepped
+pub fn step(hca: Hca, row: [Slot; 8], store: &mut [u8], room: &mut [u8], k: usize) -> HandedBack<u8>
     ensures { Link (world hca row store.old room.old)
         (calls.step k) (calls.stepped result.answer)
         (step_handed hca row store.new room.new result).world }

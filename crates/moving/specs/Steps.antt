@@ -1,5 +1,5 @@
 -- A step of a slot that was looked up: what the slot promises to a burst if its request runs, and what the burst makes of the step.
-use Rattle.std.specs.Prelude.{◌≡◌, refl, true, List, [], ◌∷◌, ℕ, get_or, set}
+use Rattle.std.specs.Prelude.{◌≡◌, refl, true, List, [], ◌∷◌, ℕ, get_or, set, Ok}
 use Rattle.std.proofs.Common.{sym, ◌∙◌, ⊎_elim, arith}
 use Rattle.std.proofs.Math.Path.{ap}
 use types.Run.{OneOf}
@@ -19,7 +19,6 @@ use Rattle.slots.specs.contracts.Status as Status'
 use Rattle.possible.proofs.Laws.{open_fits as fits}
 use Rattle.possible.specs.declared.Hca.{Hca}
 use Rattle.rules.specs.declared.Refusal.TheVariants as cause
-use Rattle.rules.specs.declared.StepAnswer.TheVariants as step
 use Rattle.rules.specs.World.{World, world, with_row, with_memory, with_room, status_at, bad_lent, bad_state}
 use Rattle.rules.specs.Steps.{Stepped, stepped, step_refused, slot_moved, world_moved, memory_moved, room_moved, step_on, step_of}
 use Rattle.rules.specs.Laws.Decided.{Passing}
@@ -72,14 +71,14 @@ module _ {w : World} {k : ℕ} {s : Slot} {q : Request} {m : ℕ} (found : Looke
 
 -- slot k one burst further, and the burst moved
 abbrev after : World → ℕ → Advanced → Moved → Stepped
-after w k a y = stepped (step.Left a.left) (with_room (with_memory (with_row w (set w.row k a.slot)) y.memory) y.room)
+after w k a y = stepped (Ok a.left) (with_room (with_memory (with_row w (set w.row k a.slot)) y.memory) y.room)
 
 module _ (h : Hca) (row : List Slot) (store room : List ℕ) (k : ℕ) where
   -- a burst that was moved, and the slot one burst further
   pub step_made : {q : Request} {m : ℕ} (s : Slot) (out room_out : List ℕ) (a : Advanced)
       → LookedUp (world h row store room) k s → s.status ≡ Running m q → moved out room_out ≡ burst_moved h store room k q m
       → a ≡ advanced_slot s
-      → stepped (step.Left a.left) (world h (set row k a.slot) out room_out) ≡ step_on (world h row store room) k s.status
+      → stepped (Ok a.left) (world h (set row k a.slot) out room_out) ≡ step_on (world h row store room) k s.status
   unfolding step_on world_moved slot_moved burst_moved memory_moved room_moved
   step_made s out room_out a found runs burst next =
       ap (λ (y : Advanced). after (world h row store room) k y (moved out room_out)) (next ∙ ap advanced_slot found.is)

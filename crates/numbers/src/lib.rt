@@ -8,62 +8,38 @@ ghost use Rattle.context.specs.declared.Kind.TheVariants as kind;
 
 use context::{CqNumber, EqNumber, Logs, MptNumber, QpNumber};
 
-#[derive(Drop)]
-pub enum QpFound {
-    Number(QpNumber),
-    OutOfRange,
-}
-
-#[derive(Drop)]
-pub enum CqFound {
-    Number(CqNumber),
-    OutOfRange,
-}
-
-#[derive(Drop)]
-pub enum EqFound {
-    Number(EqNumber),
-    OutOfRange,
-}
-
-#[derive(Drop)]
-pub enum MptFound {
-    Number(MptNumber),
-    OutOfRange,
-}
-
-pub fn qp_number(logs: Logs, n: u32) -> QpFound
+pub fn qp_number(logs: Logs, n: u32) -> Option<QpNumber>
     ensures { (result ≡ qp_of logs n) × (qp_found_number result ≡ number_rows logs kind.Qp n 0 3) }
 {
     if record_kinds::below_count(logs.qps, n) {
-        return QpFound::Number(QpNumber(n));
+        return Some(QpNumber(n));
     }
-    QpFound::OutOfRange
+    None
 }
 
-pub fn cq_number(logs: Logs, n: u32) -> CqFound
+pub fn cq_number(logs: Logs, n: u32) -> Option<CqNumber>
     ensures { (result ≡ cq_of logs n) × (cq_found_number result ≡ number_rows logs kind.Cq n 0 3) }
 {
     if record_kinds::below_count(logs.cqs, n) {
-        return CqFound::Number(CqNumber(n));
+        return Some(CqNumber(n));
     }
-    CqFound::OutOfRange
+    None
 }
 
-pub fn eq_number(logs: Logs, n: u32) -> EqFound
+pub fn eq_number(logs: Logs, n: u32) -> Option<EqNumber>
     ensures { (result ≡ eq_of logs n) × (eq_found_number result ≡ number_rows logs kind.Eq n 0 3) }
 {
     if record_kinds::below_count(logs.eqs, n) {
-        return EqFound::Number(EqNumber(n));
+        return Some(EqNumber(n));
     }
-    EqFound::OutOfRange
+    None
 }
 
-pub fn mpt_number(logs: Logs, n: u32) -> MptFound
+pub fn mpt_number(logs: Logs, n: u32) -> Option<MptNumber>
     ensures { (result ≡ mpt_of logs n) × (mpt_found_number result ≡ number_rows logs kind.Mpt n 0 3) }
 {
     if record_kinds::below_count(logs.mpts, n) {
-        return MptFound::Number(MptNumber(n));
+        return Some(MptNumber(n));
     }
-    MptFound::OutOfRange
+    None
 }

@@ -3,10 +3,10 @@
 
 ghost use Rattle.std.specs.Prelude.{◌≡◌};
 ghost use Rattle.checks.specs.Verdicts.{denial_number};
-ghost use Rattle.rules.specs.Numbers.{refusal_number, submit_number, step_number, collect_number, reset_number};
+ghost use Rattle.rules.specs.Numbers.{refusal_number, number_of};
 
 use checks::Denial;
-use rules::{CollectAnswer, Refusal, ResetAnswer, StepAnswer, SubmitAnswer};
+use rules::Refusal;
 
 // 0 means done or accepted.
 const DONE: u8 = 0;
@@ -44,39 +44,12 @@ pub fn refusal_number(cause: Refusal) -> u8
     }
 }
 
-pub fn submit_number(answer: SubmitAnswer) -> u8
-    ensures { result ≡ submit_number answer }
+// The number of a call's answer, whatever it gives beside it.
+pub fn number<T: Drop>(answer: Result<T, Refusal>) -> u8
+    ensures { result ≡ number_of answer }
 {
     match answer {
-        SubmitAnswer::Done => DONE,
-        SubmitAnswer::Accepted(_) => DONE,
-        SubmitAnswer::Refused(cause) => refusal_number(cause),
-    }
-}
-
-pub fn step_number(answer: StepAnswer) -> u8
-    ensures { result ≡ step_number answer }
-{
-    match answer {
-        StepAnswer::Left(_) => DONE,
-        StepAnswer::Refused(cause) => refusal_number(cause),
-    }
-}
-
-pub fn collect_number(answer: CollectAnswer) -> u8
-    ensures { result ≡ collect_number answer }
-{
-    match answer {
-        CollectAnswer::Collected(_) => DONE,
-        CollectAnswer::Refused(cause) => refusal_number(cause),
-    }
-}
-
-pub fn reset_number(answer: ResetAnswer) -> u8
-    ensures { result ≡ reset_number answer }
-{
-    match answer {
-        ResetAnswer::Done => DONE,
-        ResetAnswer::Refused(cause) => refusal_number(cause),
+        Ok(_) => DONE,
+        Err(cause) => refusal_number(cause),
     }
 }

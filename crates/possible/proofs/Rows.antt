@@ -15,7 +15,7 @@ use Rattle.slots.specs.Slots.{Held, slot, advanced_status, advanced, command_sta
 use Rattle.rows.specs.Rows.{any_slot}
 use Rattle.holds.specs.Holds.{held_against}
 use Rattle.burst_table.proofs.Totals.{total_positive}
-use Rattle.rows.proofs.Every.{at, None, NoTwo, none_each, each_none, none_set, pairs_set}
+use Rattle.rows.proofs.Every.{at, NoneOf, NoTwo, none_each, each_none, none_set, pairs_set}
 use Rattle.rows.proofs.Laws.{none_command}
 use Rattle.holds.proofs.Laws.{held_each}
 use Rattle.slots.specs.declared.Slot.{Slot}
@@ -27,7 +27,7 @@ use Rattle.possible.proofs.Pairs.{commands_swap, commands_pairs, pairs_commands,
 
 pub record OpenRow (g : Logs) (store : ℕ) (row : List Slot) : Type 0 where
   pub fits : fits_store g store ≡ true
-  pub right : None (slot_wrong g) row
+  pub right : NoneOf (slot_wrong g) row
   pub commands : NoTwo both_commands row
   pub holds : NoTwo slots_clash row
 

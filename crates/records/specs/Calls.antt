@@ -1,5 +1,5 @@
 -- What the code asks of the memory and the room that it is lent, and what its calls leave.
-use Rattle.std.specs.Prelude.{◌≡◌, refl, true, ℕ, ◌+◌, ◌-◌, ◌*◌, ◌%◌, ◌≤◌, ◌<◌, length, replicate}
+use Rattle.std.specs.Prelude.{◌≡◌, refl, true, ℕ, ◌+◌, ◌-◌, ◌*◌, ◌%◌, ◌≤◌, ◌<◌, length, replicate, Result}
 use Rattle.std.proofs.Common.{sym, ◌∙◌, subst}
 use Rattle.std.proofs.Math.Path.{ap}
 use mathlib.Core.List.{List, [], ◌∷◌}
@@ -14,7 +14,6 @@ use Rattle.context.specs.declared.Logs.{Logs}
 use Rattle.context.specs.declared.QpNumber.{QpNumber}
 use Rattle.context.specs.declared.Record.{Record}
 use Rattle.context.specs.declared.Record.TheVariants as rec
-use Rattle.checks.specs.declared.Verdict.{Verdict}
 use Rattle.requests.specs.declared.EngineRequest.TheVariants as engine
 use Rattle.requests.specs.declared.Request.{Request}
 use Rattle.requests.specs.declared.Request.TheVariants as request
@@ -26,6 +25,7 @@ use Rattle.burst_table.specs.Sizes.{burst_size, slot_count, slot_room, room_size
 use Rattle.burst_table.specs.Bursts.{joined_size, total_of, offset_of}
 use Rattle.burst_table.proofs.Laws.{offset_joined, offset_small, offset_room, need_small, all_offset}
 use Rattle.checks.specs.Permission.{permission_of}
+use Rattle.checks.specs.declared.Denial.{Denial}
 use Rattle.bursts.specs.Moves.{write_at, copy_at}
 use Rattle.bursts.specs.Room.{front_of, room_copied}
 use Rattle.records.specs.Memory.{memory, record_in, AllRecords, Fits, place_in, burst_place, written, read_out, permission_in, zeroed}
@@ -187,7 +187,7 @@ pub record_here : (g : Logs) (store : List ℕ) (q : Request) (at : ℕ) → Sto
     → at + record_size (record_of q) ≤ length store
 record_here g store q at s e = omega (arith, record_inside g (record_of q) s.valid, s.fits)
 
-pub judged_here : (g : Logs) (store : List ℕ) (q : Request) (at : ℕ) (r : Verdict) → at ≡ record_at g (record_of q)
+pub judged_here : (g : Logs) (store : List ℕ) (q : Request) (at : ℕ) (r : Result (Unit {0}) Denial) → at ≡ record_at g (record_of q)
     → r ≡ permission_of q (part at (record_size (record_of q)) store) → r ≡ permission_in g (memory store) q
 unfolding permission_in record_in bytes_of
 judged_here g store q at r e f = f ∙ ap (λ (i : ℕ). permission_of q (part i (record_size (record_of q)) store)) e

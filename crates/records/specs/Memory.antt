@@ -1,17 +1,17 @@
 -- The memory that is lent for the records: what a record is in it, and what each use of a record makes of it. The records lie as the
 -- layout says (context); no other crate needs to know that.
-use Rattle.std.specs.Prelude.{◌≡◌, true, List, [], ◌∷◌, ◌++◌, ℕ, ◌+◌, ◌-◌, ◌≤◌, ◌<◌, ltb, length, replicate}
+use Rattle.std.specs.Prelude.{◌≡◌, true, List, [], ◌∷◌, ◌++◌, ℕ, ◌+◌, ◌-◌, ◌≤◌, ◌<◌, ltb, length, replicate, Result}
 use Rattle.words.specs.Choice.{pick}
 use Rattle.words.specs.Parts.{part, splice}
 use Rattle.context.specs.Layout.{is_record, record_at, record_size, bytes_of, in_use}
 use Rattle.context.specs.declared.Logs.{Logs}
 use Rattle.context.specs.declared.Record.{Record}
-use Rattle.checks.specs.declared.Verdict.{Verdict}
 use Rattle.requests.specs.declared.Request.{Request}
 use Rattle.request_table.specs.Records.{record_of, records_of}
 use Rattle.burst_table.specs.Sizes.{burst_size}
 use Rattle.burst_table.specs.Bursts.{offset_of}
 use Rattle.checks.specs.Permission.{permission_of}
+use Rattle.checks.specs.declared.Denial.{Denial}
 use Rattle.bursts.specs.Moves.{write_at}
 
 -- what is lent for the records: one stretch of bytes (01, The context store)
@@ -58,7 +58,7 @@ unfoldable pub read_out : Logs → Memory → Request → ℕ → List ℕ
 read_out g m q b = part (offset_of q b) burst_size (joined_in g m (records_of q))
 
 -- whether the request's record permits it
-unfoldable pub permission_in : Logs → Memory → Request → Verdict
+unfoldable pub permission_in : Logs → Memory → Request → Result (Unit {0}) Denial
 permission_in g m q = permission_of q (record_in g m (record_of q))
 
 -- INIT_HCA makes the bytes in use zero and leaves the others (01, The context store)

@@ -17,7 +17,7 @@ ghost use Rattle.records.specs.Memory.{permission_in, zeroed};
 ghost use Rattle.records.specs.Calls.{Stored, Moving, qp_read, joined_read};
 
 use burst_table::BURST;
-use checks::Verdict;
+use checks::Denial;
 use context::{CqNumber, EqNumber, Logs, QpNumber, Record};
 use request_table::Records;
 use requests::Request;
@@ -131,7 +131,7 @@ pub fn read_joined_burst(
 }
 
 // Whether a request's record permits it.
-pub fn permission(logs: Logs, store: &[u8], request: Request) -> Verdict
+pub fn permission(logs: Logs, store: &[u8], request: Request) -> Result<(), Denial>
     requires { Stored logs store.now request }
     ensures { result ≡ permission_in logs (memory store.now) request }
 {

@@ -1,5 +1,5 @@
 -- What the code of the two calls makes, in the definitions' terms.
-use Rattle.std.specs.Prelude.{◌≡◌, Bool, List, [], ◌∷◌, ◌++◌, ℕ, ◌+◌, ◌≤◌, ◌<◌, ltb, length, get_or, replicate}
+use Rattle.std.specs.Prelude.{◌≡◌, Bool, List, [], ◌∷◌, ◌++◌, ℕ, ◌+◌, ◌≤◌, ◌<◌, ltb, length, get_or, replicate, Result, Ok, Err}
 use Rattle.std.proofs.Math.Path.{refl, ap}
 use Rattle.std.proofs.Common.{sym, ◌∙◌, append_assoc, arith, length-append}
 use Rattle.std.proofs.Math.Bool.{true, false}
@@ -9,13 +9,13 @@ use Rattle.words.specs.Parts.{splice}
 use Rattle.words.specs.Words.{le_bytes}
 use Rattle.words.proofs.Words.{length_le_bytes}
 use Rattle.hcr.specs.declared.HcrCommand.{HcrCommand}
-use Rattle.hcr.specs.declared.ReadAnswer.{ReadAnswer}
-use Rattle.hcr.specs.declared.ReadAnswer.TheVariants as reads
-use Rattle.hcr.specs.declared.WriteAnswer.{WriteAnswer}
-use Rattle.hcr.specs.declared.WriteAnswer.TheVariants as writes
 use Rattle.hcr.specs.Register.{bit, command_of, well_formed, read_rows, read_of}
 use Rattle.hcr.specs.Register.{register_of, write_rows, write_of, bytes_after, written_of, write_answer_number}
 use Rattle.hcr.proofs.WordList.{splice_more}
+use Rattle.hcr.specs.declared.ReadError.{ReadError}
+use Rattle.hcr.specs.declared.WriteError.{WriteError}
+use Rattle.hcr.specs.declared.ReadError.TheVariants as readError
+use Rattle.hcr.specs.declared.WriteError.TheVariants as writeError
 use Rattle.register_calls.specs.Calls.{Left, left, fields_of, command_in, read_call, write_call}
 
 -- ---- the fields, stored one behind the other
@@ -78,10 +78,10 @@ fields_put c f l m₁ m₂ m₃ m₄ m₅ m₆ o e₂₆ e₂₄ f-is e₂₂ e�
 -- ---- the reader's answers
 
 -- what is left of the fields at each answer of the register's reader
-abbrev pub fields_left : ReadAnswer → List ℕ → Left
-fields_left (reads.Command c) fields = left 0 (splice 0 (fields_of c) fields)
-fields_left reads.Short fields = left 0x83 fields
-fields_left reads.Malformed fields = left 3 fields
+abbrev pub fields_left : Result HcrCommand ReadError → List ℕ → Left
+fields_left (Ok c) fields = left 0 (splice 0 (fields_of c) fields)
+fields_left (Err readError.Short) fields = left 0x83 fields
+fields_left (Err readError.Malformed) fields = left 3 fields
 
 module _ (hcr fields : List ℕ) where
   pub read_short : length fields < 32 → left 0x83 fields ≡ read_call hcr fields
@@ -98,23 +98,23 @@ module _ (hcr fields : List ℕ) where
   unfolding read_call read_of read_rows
   read_made h = rw (le-ltb (length fields) 32 h) (go (ltb (length hcr) 28) (well_formed hcr))
     where
-      go : (b w : Bool) → fields_left (pick b reads.Short (pick w (reads.Command (command_of hcr)) reads.Malformed)) fields
+      go : (b w : Bool) → fields_left (pick b (Err readError.Short) (pick w (Ok (command_of hcr)) (Err readError.Malformed))) fields
           ≡ pick (either b false) (left 0x83 fields)
           (pick w (left 0 (splice 0 (fields_of (command_of hcr)) fields)) (left 3 fields))
       go true w = refl
       go false true = refl
       go false false = refl
 
-  module _ (long : 32 ≤ length fields) (a : ReadAnswer) (is : a ≡ read_of hcr) where
-    pub on_command : (c : HcrCommand) (out : List ℕ) → a ≡ reads.Command c → out ≡ splice 0 (fields_of c) fields
+  module _ (long : 32 ≤ length fields) (a : Result HcrCommand ReadError) (is : a ≡ read_of hcr) where
+    pub on_command : (c : HcrCommand) (out : List ℕ) → a ≡ Ok c → out ≡ splice 0 (fields_of c) fields
         → left 0 out ≡ read_call hcr fields
-    on_command c out e f = ap (left 0) f ∙ ap (λ (x : ReadAnswer). fields_left x fields) (sym e ∙ is) ∙ read_made long
+    on_command c out e f = ap (left 0) f ∙ ap (λ (x : Result HcrCommand ReadError). fields_left x fields) (sym e ∙ is) ∙ read_made long
 
-    pub on_short : a ≡ reads.Short → left 0x83 fields ≡ read_call hcr fields
-    on_short e = ap (λ (x : ReadAnswer). fields_left x fields) (sym e ∙ is) ∙ read_made long
+    pub on_short : a ≡ Err readError.Short → left 0x83 fields ≡ read_call hcr fields
+    on_short e = ap (λ (x : Result HcrCommand ReadError). fields_left x fields) (sym e ∙ is) ∙ read_made long
 
-    pub on_malformed : a ≡ reads.Malformed → left 3 fields ≡ read_call hcr fields
-    on_malformed e = ap (λ (x : ReadAnswer). fields_left x fields) (sym e ∙ is) ∙ read_made long
+    pub on_malformed : a ≡ Err readError.Malformed → left 3 fields ≡ read_call hcr fields
+    on_malformed e = ap (λ (x : Result HcrCommand ReadError). fields_left x fields) (sym e ∙ is) ∙ read_made long
 
 -- ---- the writer's answers
 
@@ -134,7 +134,7 @@ module _ (hcr fields : List ℕ) where
       bad_event h = rw (le-ltb (length hcr) 28 long, le-ltb (length fields) 32 long-fields, lt-ltb 1 (get_or fields 25 0) h)
 
       -- n is the answer's number, and out what the register's writer left
-      pub write_made : get_or fields 25 0 ≤ 1 → (c : HcrCommand) (a : WriteAnswer) (n : ℕ) (out : List ℕ)
+      pub write_made : get_or fields 25 0 ≤ 1 → (c : HcrCommand) (a : Result (Unit {0}) WriteError) (n : ℕ) (out : List ℕ)
           → c ≡ command_in fields → n ≡ write_answer_number a → a ≡ write_of c hcr → out ≡ written_of c hcr
           → left n out ≡ write_call hcr fields
       unfolding write_call write_of write_rows written_of bytes_after
@@ -145,8 +145,8 @@ module _ (hcr fields : List ℕ) where
           ∙ rw (le-ltb (length hcr) 28 long, le-ltb (length fields) 32 long-fields, le-ltb 1 (get_or fields 25 0) h)
           (go (ltb 0xfff (command_in fields).op))
         where
-          go : (b : Bool) → left (write_answer_number (pick b writes.BadOp writes.Done))
-              (bytes_after (pick b writes.BadOp writes.Done) (command_in fields) hcr)
+          go : (b : Bool) → left (write_answer_number (pick b (Err writeError.BadOp) (Ok tt)))
+              (bytes_after (pick b (Err writeError.BadOp) (Ok tt)) (command_in fields) hcr)
               ≡ pick b (left 3 hcr) (left 0 (splice 0 (register_of (command_in fields)) hcr))
           go true = refl
           go false = refl

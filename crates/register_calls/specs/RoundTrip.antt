@@ -1,5 +1,5 @@
 -- The fields of a command are the command's, and the two calls undo each other.
-use Rattle.std.specs.Prelude.{◌≡◌, true, List, [], ◌∷◌, ◌++◌, ℕ, suc, ◌+◌, ◌^◌, ◌≤◌, ◌<◌, eqb, get_or, take, drop, replicate}
+use Rattle.std.specs.Prelude.{◌≡◌, true, List, [], ◌∷◌, ◌++◌, ℕ, suc, ◌+◌, ◌^◌, ◌≤◌, ◌<◌, eqb, get_or, take, drop, replicate, Result, Ok}
 use Rattle.std.proofs.Math.Path.{refl, ap}
 use Rattle.std.proofs.Common.{sym, ◌∙◌, append_assoc, append-nil, pow-suc, arith, lit<, take-add}
 use Rattle.std.proofs.Math.ListN.{length}
@@ -9,12 +9,11 @@ use Rattle.words.proofs.Parts.{length_part, length_splice}
 use Rattle.words.specs.Words.{bits, AreBytes, le_value, le_bytes, le32}
 use Rattle.words.proofs.Words.{le_round, le_back}
 use Rattle.hcr.specs.declared.HcrCommand.{HcrCommand}
-use Rattle.hcr.specs.declared.ReadAnswer.{ReadAnswer}
-use Rattle.hcr.specs.declared.WriteAnswer.TheVariants as writes
 use Rattle.hcr.proofs.Fields.{bit_small, bit_tested, tested_bit}
 use Rattle.hcr.specs.Register.{param_at, command_of, well_formed, written_of}
 use Rattle.hcr.proofs.RoundTrip.{Fits, read_write, write_read}
 use Rattle.hcr.proofs.WordList.{bytes_part, le32_small, word_back}
+use Rattle.hcr.specs.declared.ReadError.{ReadError}
 use Rattle.register_calls.specs.Calls.{Left, left, fields_of, number_at, command_in, read_call, write_call}
 use Rattle.register_calls.specs.Made.{fields_left, read_made, write_made}
 
@@ -171,12 +170,12 @@ read_written hcr fields out bytes long room free formed =
     (ap (λ (x : Left). x.answer) given, ap (λ (x : Left). write_call out x.bytes) given ∙ sym written)
   where
     given : read_call hcr fields ≡ left 0 (splice 0 (fields_of (command_of hcr)) fields)
-    given = sym (read_made hcr fields room) ∙ ap (λ (x : ReadAnswer). fields_left x fields) (read_write hcr out bytes long free formed).0
+    given = sym (read_made hcr fields room) ∙ ap (λ (x : Result HcrCommand ReadError). fields_left x fields) (read_write hcr out bytes long free formed).0
 
     written : left 0 (splice 0 (part 0 28 hcr) out) ≡ write_call out (splice 0 (fields_of (command_of hcr)) fields)
     written =
         write_made out (splice 0 (fields_of (command_of hcr)) fields) free (put_length (command_of hcr) fields room)
-        (put_event (command_of hcr) fields) (command_of hcr) writes.Done 0 (splice 0 (part 0 28 hcr) out)
+        (put_event (command_of hcr) fields) (command_of hcr) (Ok tt) 0 (splice 0 (part 0 28 hcr) out)
         (sym (put_command (command_of hcr) fields (read_fits hcr bytes long))) refl
         (sym (read_write hcr out bytes long free formed).1) (sym (read_write hcr out bytes long free formed).2)
 
@@ -190,11 +189,11 @@ written_read hcr fields out bytes long room free flag low =
   where
     given : write_call hcr fields ≡ left 0 (written_of (command_in fields) hcr)
     given =
-        sym (write_made hcr fields long room flag (command_in fields) writes.Done 0 (written_of (command_in fields) hcr) refl refl
+        sym (write_made hcr fields long room flag (command_in fields) (Ok tt) 0 (written_of (command_in fields) hcr) refl refl
         (sym (write_read (command_in fields) hcr (written_fits fields bytes room) low long).0) refl)
 
     found : read_call (written_of (command_in fields) hcr) out ≡ left 0 (splice 0 (part 0 26 fields ++ replicate 6 0) out)
     found =
         sym (read_made (written_of (command_in fields) hcr) out free)
-        ∙ ap (λ (x : ReadAnswer). fields_left x out) (write_read (command_in fields) hcr (written_fits fields bytes room) low long).1
+        ∙ ap (λ (x : Result HcrCommand ReadError). fields_left x out) (write_read (command_in fields) hcr (written_fits fields bytes room) low long).1
         ∙ ap (λ (ys : List ℕ). left 0 (splice 0 ys out)) (fields_again fields bytes room flag)

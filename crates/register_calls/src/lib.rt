@@ -1,26 +1,20 @@
 // The command register for C: its fields stand in 32 lent bytes, so that a caller in C needs no struct of ours.
 #![tactic(auto)]
 
-ghost use Rattle.std.specs.Prelude.{◌≡◌, ◌+◌, ◌*◌, ◌≤◌, ◌∷◌, [], length};
+ghost use Rattle.std.specs.Prelude.{◌≡◌, ◌+◌, ◌≤◌, length};
 ghost use Rattle.words.specs.Parts.{splice};
 ghost use Rattle.words.specs.Words.{le_bytes};
-ghost use Rattle.hcr.specs.Register.{bit, write_answer_number};
+ghost use Rattle.hcr.specs.Register.{write_answer_number};
 ghost use Rattle.register_calls.specs.Calls.{left, number_at, fields_of, command_in, read_call, write_call};
 
-use hcr::{HcrCommand, ReadAnswer, WriteAnswer};
-
-fn join_16(low: u8, high: u8) -> u16
-    ensures { result ≡ low + high * 0x100 }
-{
-    low as u16 + (high as u16) * 0x100
-}
+use hcr::{HcrCommand, ReadError, WriteError};
 
 // The little-endian numbers of two and of eight bytes at `at`.
 fn read_le16(s: &[u8], at: usize) -> u16
     requires { at + 2 ≤ length s.now }
     ensures { result ≡ number_at at 2 s.now }
 {
-    join_16(s[at], s[at + 1])
+    u16::from_le_bytes([s[at], s[at + 1]])
 }
 
 fn read_le64(s: &[u8], at: usize) -> u64
@@ -29,36 +23,21 @@ fn read_le64(s: &[u8], at: usize) -> u64
 {
     let low = words::read_le32(s, at);
     let high = words::read_le32(s, at + 4);
-    low as u64 + (high as u64) * 0x1_0000_0000
-}
-
-fn write_two(s: &mut [u8], at: usize, b0: u8, b1: u8)
-    requires { at + 2 ≤ length s.old }
-    ensures { s.new ≡ splice at (b0 ∷ b1 ∷ []) s.old }
-{
-    s[at] = b0;
-    s[at + 1] = b1;
+    u64::from(low) + u64::from(high) * 0x1_0000_0000
 }
 
 fn write_le16(s: &mut [u8], at: usize, v: u16)
     requires { at + 2 ≤ length s.old }
     ensures { s.new ≡ splice at (le_bytes 2 v) s.old }
 {
-    write_two(s, at, (v % 0x100) as u8, (v / 0x100) as u8);
+    s[at..at + 2].copy_from_slice(&v.to_le_bytes());
 }
 
 fn write_le64(s: &mut [u8], at: usize, v: u64)
     requires { at + 8 ≤ length s.old }
     ensures { s.new ≡ splice at (le_bytes 8 v) s.old }
 {
-    words::write_le32(s, at, (v % 0x1_0000_0000) as u32);
-    words::write_le32(s, at + 4, (v / 0x1_0000_0000) as u32);
-}
-
-fn event_byte(event: bool) -> u8
-    ensures { result ≡ bit event }
-{
-    if event { 1 } else { 0 }
+    s[at..at + 8].copy_from_slice(&v.to_le_bytes());
 }
 
 fn put_fields(fields: &mut [u8], c: HcrCommand)
@@ -70,7 +49,8 @@ fn put_fields(fields: &mut [u8], c: HcrCommand)
     words::write_le32(fields, 16, c.in_modifier);
     write_le16(fields, 20, c.token);
     write_le16(fields, 22, c.op);
-    write_two(fields, 24, c.op_modifier, event_byte(c.event));
+    fields[24] = c.op_modifier;
+    fields[25] = u8::from(c.event);
     words::fill(fields, 26, 6, 0);
 }
 
@@ -83,12 +63,12 @@ pub fn read_register(hcr: &[u8], fields: &mut [u8]) -> u32
     }
     let found = hcr_reader::read(hcr);
     match found {
-        ReadAnswer::Command(c) => {
+        Ok(c) => {
             put_fields(fields, c);
             0
         }
-        ReadAnswer::Short => 0x83,
-        ReadAnswer::Malformed => 3,
+        Err(ReadError::Short) => 0x83,
+        Err(ReadError::Malformed) => 3,
     }
 }
 
@@ -108,13 +88,13 @@ fn command_in(fields: &[u8]) -> HcrCommand
     }
 }
 
-fn write_number(answer: WriteAnswer) -> u32
+fn write_number(answer: Result<(), WriteError>) -> u32
     ensures { result ≡ write_answer_number answer }
 {
     match answer {
-        WriteAnswer::Done => 0,
-        WriteAnswer::Short => 0x83,
-        WriteAnswer::BadOp => 3,
+        Ok(()) => 0,
+        Err(WriteError::Short) => 0x83,
+        Err(WriteError::BadOp) => 3,
     }
 }
 

@@ -5,20 +5,19 @@ ghost use Rattle.std.specs.Prelude.{◌≡◌};
 ghost use Rattle.slots.specs.Slots.{is_occupied};
 ghost use Rattle.rows.specs.Rows.{any_slot, lowest_free};
 
-use rows::SlotFound;
 use slots::Slot;
 
 // The slot that submission takes.
-pub fn lowest_free(row: [Slot; 8]) -> SlotFound
+pub fn lowest_free(row: [Slot; 8]) -> Option<usize>
     ensures { result ≡ lowest_free 0 row }
 {
     for i in 0..8 {
         if slot_tests::is_occupied(row[i]) {
             continue;
         }
-        return SlotFound::At(i);
+        return Some(i);
     }
-    SlotFound::Nothing
+    None
 }
 
 // Whether a slot has a request, running or finished.

@@ -18,8 +18,8 @@ abbrev pub at : List Slot → ℕ → Slot
 at row k = get_or row k (slot Free)
 
 -- no slot passes the test
-abbrev pub None : (Slot → Bool) → List Slot → Type 0
-None p row = (k : ℕ) → p (at row k) ≡ false
+abbrev pub NoneOf : (Slot → Bool) → List Slot → Type 0
+NoneOf p row = (k : ℕ) → p (at row k) ≡ false
 
 -- no two slots pass the test
 abbrev pub NoTwo : (Slot → Slot → Bool) → List Slot → Type 0
@@ -27,13 +27,13 @@ NoTwo t row = (i j : ℕ) → ¬ (i ≡ j) → t (at row i) (at row j) ≡ false
 
 -- ---- each slot
 
-pub none_each : (p : Slot → Bool) (row : List Slot) → p (slot Free) ≡ false → any_slot p row ≡ false → None p row
+pub none_each : (p : Slot → Bool) (row : List Slot) → p (slot Free) ≡ false → any_slot p row ≡ false → NoneOf p row
 unfolding any_slot
 none_each p [] f e k = f
 none_each p (s ∷ ss) f e zero = neither_left (p s) (any_slot p ss) e
 none_each p (s ∷ ss) f e (suc k) = none_each p ss f (neither_right (p s) (any_slot p ss) e) k
 
-pub each_none : (p : Slot → Bool) (row : List Slot) → None p row → any_slot p row ≡ false
+pub each_none : (p : Slot → Bool) (row : List Slot) → NoneOf p row → any_slot p row ≡ false
 unfolding any_slot
 each_none p [] h = refl
 each_none p (s ∷ ss) h = neither (p s) (any_slot p ss) (h zero) (each_none p ss (λ k. h (suc k)))
@@ -78,7 +78,7 @@ changed_at P (x ∷ xs) zero (suc i) s h g = g
 changed_at P (x ∷ xs) (suc k) zero s h g = g
 changed_at P (x ∷ xs) (suc k) (suc i) s h g = changed_at P xs k i s h g
 
-pub none_set : (p : Slot → Bool) (row : List Slot) (k : ℕ) (s : Slot) → p s ≡ false → None p row → None p (set row k s)
+pub none_set : (p : Slot → Bool) (row : List Slot) (k : ℕ) (s : Slot) → p s ≡ false → NoneOf p row → NoneOf p (set row k s)
 none_set p row k s e h i = changed_at (λ (x : Slot). p x ≡ false) row k i s e (h i)
 
 pub pairs_set : (t : Slot → Slot → Bool) (row : List Slot) (k : ℕ) (s : Slot) → ((s u : Slot) → t s u ≡ t u s)

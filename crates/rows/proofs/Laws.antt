@@ -1,15 +1,14 @@
 -- Laws of the questions about a row, as the operations and their theorems use them.
-use Rattle.std.specs.Prelude.{◌≡◌, refl, Bool, true, false, List, [], ◌∷◌, ℕ, zero, suc, ◌+◌, ◌≤◌, ◌<◌, length, set}
+use Rattle.std.specs.Prelude.{◌≡◌, refl, Bool, true, false, List, [], ◌∷◌, ℕ, zero, suc, ◌+◌, ◌≤◌, ◌<◌, length, set, Some, None}
 use Rattle.std.proofs.Common.{sym, ◌∙◌, ap, ap₂, subst, arith}
 use Rattle.std.proofs.lemmas.Bool.{false≢true}
 use Rattle.std.proofs.Math.ListN.{get_or-eq_default}
 use Rattle.slots.specs.Slots.{slot, occupied_status, is_occupied, has_command}
 use Rattle.rows.specs.Rows.{any_slot, lowest_free}
-use Rattle.rows.proofs.Every.{at, None, none_each}
+use Rattle.rows.proofs.Every.{at, NoneOf, none_each}
 use Rattle.slots.specs.declared.Slot.{Slot}
 use Rattle.slots.specs.declared.Status.{Status}
 use Rattle.slots.specs.declared.Status.TheVariants.{Free, Running, Finished}
-use Rattle.rows.specs.declared.SlotFound.TheVariants.{At, Nothing}
 
 free_is : (s : Status) → occupied_status s ≡ false → s ≡ Free
 free_is Free e = refl
@@ -55,10 +54,10 @@ pub record Lowest (row : List Slot) (k : ℕ) : Type 0 where
   pub free : (at row k).status ≡ Free
   pub below : (j : ℕ) → j < k → is_occupied (at row j) ≡ true
 
-found_at : (s k : ℕ) → At s ≡ At k → s ≡ k
+found_at : (s k : ℕ) → Some s ≡ Some k → s ≡ k
 found_at s k e = cc
 
-found_nothing : (k : ℕ) → Nothing ≡ At k → ⊥
+found_nothing : (k : ℕ) → None ≡ Some k → ⊥
 found_nothing k e = let z : ◌≡◌ {A = ℕ} 0 1 = cc in omega arith
 
 -- a row whose first slot is occupied
@@ -75,7 +74,7 @@ record From (s k : ℕ) (row : List Slot) : Type 0 where
   pub is : k ≡ s + d
   pub lowest : Lowest row d
 
-lowest_from : (s : ℕ) (row : List Slot) (k : ℕ) → lowest_free s row ≡ At k → From s k row
+lowest_from : (s : ℕ) (row : List Slot) (k : ℕ) → lowest_free s row ≡ Some k → From s k row
 unfolding lowest_free
 lowest_from s [] k e = absurd (found_nothing k e)
 lowest_from s (x ∷ xs) k e = go (is_occupied x) refl (lowest_from (suc s) xs k)
@@ -83,27 +82,27 @@ lowest_from s (x ∷ xs) k e = go (is_occupied x) refl (lowest_from (suc s) xs k
     next : From (suc s) k xs → is_occupied x ≡ true → From s k (x ∷ xs)
     next f o = record { d = suc f.d; is = omega (arith, f.is); lowest = lowest_behind x xs f.d o f.lowest }
 
-    go : (b : Bool) → is_occupied x ≡ b → (lowest_free (suc s) xs ≡ At k → From (suc s) k xs) → From s k (x ∷ xs)
+    go : (b : Bool) → is_occupied x ≡ b → (lowest_free (suc s) xs ≡ Some k → From (suc s) k xs) → From s k (x ∷ xs)
     go true o more = next (more (rw o at e)) o
     go false o more =
         let n : s ≡ k = found_at s k (rw o at e) in
         let here : (at (x ∷ xs) zero).status ≡ Free = ap (λ (u : Slot). u.status) (not_occupied x o) in
         record { d = zero; is = omega arith; lowest = record { inside = omega arith; free = here; below = λ j h. absurd (omega arith) } }
 
-pub lowest_free_is : (row : List Slot) (k : ℕ) → lowest_free 0 row ≡ At k → Lowest row k
+pub lowest_free_is : (row : List Slot) (k : ℕ) → lowest_free 0 row ≡ Some k → Lowest row k
 lowest_free_is row k e =
     let f : From 0 k row = lowest_from 0 row k e in
     let n : f.d ≡ k = omega (arith, f.is) in
     subst (Lowest row) n f.lowest
 
 -- no slot is free: all are occupied
-pub lowest_nothing : (s : ℕ) (row : List Slot) → lowest_free s row ≡ Nothing → (k : ℕ) → k < length row → is_occupied (at row k) ≡ true
+pub lowest_nothing : (s : ℕ) (row : List Slot) → lowest_free s row ≡ None → (k : ℕ) → k < length row → is_occupied (at row k) ≡ true
 unfolding lowest_free
 lowest_nothing s [] e k h = absurd (omega arith)
 lowest_nothing s (x ∷ xs) e k h = go (is_occupied x) refl k h (lowest_nothing (suc s) xs)
   where
     go : (b : Bool) → is_occupied x ≡ b → (k : ℕ) → k < length (x ∷ xs)
-        → (lowest_free (suc s) xs ≡ Nothing → (k : ℕ) → k < length xs → is_occupied (at xs k) ≡ true)
+        → (lowest_free (suc s) xs ≡ None → (k : ℕ) → k < length xs → is_occupied (at xs k) ≡ true)
         → is_occupied (at (x ∷ xs) k) ≡ true
     go false o k h more = absurd (found_nothing s (sym (rw o at e)))
     go true o zero h more = o

@@ -1,14 +1,12 @@
 -- The turns of a loop over a row of eight slots. Each loop keeps that what is left of the row decides: what the test says of
 -- the slots from i on is what it says of all that were to be scanned, l.
-use Rattle.std.specs.Prelude.{◌≡◌, Bool, true, false, List, [], ℕ, suc, ◌+◌, ◌≤◌, ◌<◌, length, get_or, drop}
+use Rattle.std.specs.Prelude.{◌≡◌, Bool, true, false, List, [], ℕ, suc, ◌+◌, ◌≤◌, ◌<◌, length, get_or, drop, Option, Some, None}
 use Rattle.std.proofs.Common.{sym, ◌∙◌, add-one, arith, drop_of_length-le, drop-cons}
 use Rattle.words.specs.Choice.{pick, either}
 use Rattle.slots.specs.Slots.{slot, is_occupied}
 use Rattle.rows.specs.Rows.{any_slot, any_rest, lowest_free}
 use Rattle.slots.specs.declared.Slot.{Slot}
 use Rattle.slots.specs.declared.Status.TheVariants.{Free}
-use Rattle.rows.specs.declared.SlotFound.{SlotFound}
-use Rattle.rows.specs.declared.SlotFound.TheVariants.{At, Nothing}
 
 -- ---- a slot that passes a test
 
@@ -63,21 +61,21 @@ rest_none p row l i n h k =
 -- ---- the lowest free slot
 
 free_head : (row : List Slot) (i : ℕ) → i < length row
-    → lowest_free i (drop i row) ≡ pick (is_occupied (get_or row i (slot Free))) (lowest_free (suc i) (drop (suc i) row)) (At i)
+    → lowest_free i (drop i row) ≡ pick (is_occupied (get_or row i (slot Free))) (lowest_free (suc i) (drop (suc i) row)) (Some i)
 unfolding lowest_free
 free_head row i h = rw (drop-cons row i (slot Free) h)
 
-pub free_more : (row : List Slot) (i : ℕ) (r : SlotFound) → length row ≡ 8 → i < 8
+pub free_more : (row : List Slot) (i : ℕ) (r : Option ℕ) → length row ≡ 8 → i < 8
     → is_occupied (get_or row i (slot Free)) ≡ true → lowest_free i (drop i row) ≡ r → lowest_free (i + 1) (drop (i + 1) row) ≡ r
 free_more row i r n h t k =
     rw add-one (simp t at (sym (free_head row i (omega arith)) ∙ k))
 
-pub free_found : (row : List Slot) (i : ℕ) (r : SlotFound) → length row ≡ 8 → i < 8
-    → is_occupied (get_or row i (slot Free)) ≡ false → lowest_free i (drop i row) ≡ r → At i ≡ r
+pub free_found : (row : List Slot) (i : ℕ) (r : Option ℕ) → length row ≡ 8 → i < 8
+    → is_occupied (get_or row i (slot Free)) ≡ false → lowest_free i (drop i row) ≡ r → Some i ≡ r
 free_found row i r n h t k =
     sym (simp t at (free_head row i (omega arith))) ∙ k
 
-pub free_none : (row : List Slot) (i : ℕ) (r : SlotFound) → length row ≡ 8 → 8 ≤ i → lowest_free i (drop i row) ≡ r → Nothing ≡ r
+pub free_none : (row : List Slot) (i : ℕ) (r : Option ℕ) → length row ≡ 8 → 8 ≤ i → lowest_free i (drop i row) ≡ r → None ≡ r
 unfolding lowest_free
 free_none row i r n h k =
     let g : drop i row ≡ [] = drop_of_length-le row {i = i} (omega arith) in

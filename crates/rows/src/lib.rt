@@ -6,13 +6,6 @@ ghost use Rattle.rows.specs.Rows.{empty_row};
 
 use slots::{Slot, Status};
 
-// The number of the lowest free slot, if one is free.
-#[derive(Drop)]
-pub enum SlotFound {
-    At(usize),
-    Nothing,
-}
-
 // The row that reset leaves.
 pub fn empty_row() -> [Slot; 8]
     ensures { result ≡ empty_row }

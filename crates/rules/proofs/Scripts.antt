@@ -1,5 +1,5 @@
 -- Lists of calls beside the answers that document 01 gives them, and the memory and bytes that they are tried with.
-use Rattle.std.specs.Prelude.{Bool, false, List, [], ◌∷◌, ◌++◌, map, ℕ, zero, suc, ◌+◌, replicate}
+use Rattle.std.specs.Prelude.{Bool, false, List, [], ◌∷◌, ◌++◌, map, ℕ, zero, suc, ◌+◌, replicate, Result, Ok, Err}
 use Rattle.words.specs.Maps.{map_from}
 use Rattle.words.specs.Parts.{part, splice}
 use Rattle.words.specs.Words.{bits, le_value, le32, le_bytes, be_value, be32, be_bytes}
@@ -23,8 +23,6 @@ use Rattle.records.specs.Memory.{record_in, burst_place, written, read_out, perm
 use Rattle.rows.specs.Rows.{empty_row, any_slot, any_rest, lowest_free}
 use Rattle.holds.specs.Holds.{clash_records, held_against, read_held}
 use Rattle.possible.specs.Possible.{command_before, two_commands, holds_clash, open_impossible, impossible}
-use Rattle.rules.specs.declared.CollectAnswer.{CollectAnswer}
-use Rattle.rules.specs.declared.CollectAnswer.TheVariants as collects
 use Rattle.rules.specs.Numbers.{submit_number, submit_values, step_number, step_values, collect_number, reset_number}
 use Rattle.rules.specs.World.{World, world, hca_of, status_at, bad_row, bad_store, bad_lent, bad_state}
 use Rattle.rules.specs.Admission.{decide_place, decide_verdict, decide_request, world_opened, world_closed, world_taken}
@@ -37,6 +35,7 @@ use Rattle.rules.specs.Names.{arguments_of}
 use Rattle.rules.specs.Book.{Fed, on_record}
 use Rattle.rules.specs.Calls.{Call, command, step, Answer, submitted, stepped, collected, reset_done, answer_to, initialises}
 use Rattle.rules.specs.Lending.{Lent, LentCall, answer_lent, world_lent}
+use Rattle.rules.specs.declared.Refusal.{Refusal}
 
 -- ---- a script: calls with their answers
 
@@ -86,9 +85,9 @@ lent_of l = map (λ (x : Line). record { lent = x.lent; call = x.call }) l
 abbrev pub given_by : List Line → List (List ℕ)
 given_by l = map (λ (x : Line). x.gives) l
 
-abbrev pub collect_shown : CollectAnswer → List ℕ → List ℕ
-collect_shown (collects.Collected n) out = n ∷ out
-collect_shown (collects.Refused c) out = []
+abbrev pub collect_shown : Result ℕ Refusal → List ℕ → List ℕ
+collect_shown (Ok n) out = n ∷ out
+collect_shown (Err c) out = []
 
 abbrev pub shown : Answer → List ℕ
 shown (submitted a) = submit_number a ∷ submit_values a

@@ -1,29 +1,20 @@
 -- The five calls as one type, what each answers and leaves, and what a call and its answer say of its request.
-use Rattle.std.specs.Prelude.{Bool, true, false, List, [], ℕ}
+use Rattle.std.specs.Prelude.{Bool, true, false, List, [], ℕ, Option, Some, None, Result, Ok, Err}
 use Rattle.words.specs.Choice.{pick}
 use Rattle.words.specs.Parts.{part}
 use Rattle.hcr.specs.Register.{read_of}
 use Rattle.hcr.specs.declared.HcrCommand.{HcrCommand}
-use Rattle.hcr.specs.declared.ReadAnswer.{ReadAnswer}
-use Rattle.hcr.specs.declared.ReadAnswer.TheVariants as hcr
+use Rattle.hcr.specs.declared.ReadError.{ReadError}
+use Rattle.hcr.specs.declared.ReadError.TheVariants as readError
 use Rattle.context.specs.declared.Logs.{Logs}
 use Rattle.commands.specs.Commands.{read_op, read_command}
-use Rattle.commands.specs.declared.CommandFound.{CommandFound}
-use Rattle.commands.specs.declared.CommandFound.TheVariants as command'
-use Rattle.commands.specs.declared.OpFound.{OpFound}
-use Rattle.commands.specs.declared.OpFound.TheVariants as op
+use Rattle.commands.specs.declared.CommandAsked.{CommandAsked}
+use Rattle.commands.specs.declared.Op.{Op}
+use Rattle.commands.specs.declared.CommandAsked.TheVariants as asked
 use Rattle.engines.specs.Engines.{read_number, read_engine}
-use Rattle.engines.specs.declared.EngineFound.{EngineFound}
-use Rattle.engines.specs.declared.EngineFound.TheVariants as engine
-use Rattle.engines.specs.declared.NumberFound.{NumberFound}
-use Rattle.engines.specs.declared.NumberFound.TheVariants as number
-use Rattle.rules.specs.declared.SubmitAnswer.{SubmitAnswer}
-use Rattle.rules.specs.declared.SubmitAnswer.TheVariants as submit
-use Rattle.rules.specs.declared.StepAnswer.{StepAnswer}
-use Rattle.rules.specs.declared.CollectAnswer.{CollectAnswer}
-use Rattle.rules.specs.declared.CollectAnswer.TheVariants as collect
-use Rattle.rules.specs.declared.ResetAnswer.{ResetAnswer}
-use Rattle.rules.specs.declared.ResetAnswer.TheVariants as reset
+use Rattle.engines.specs.declared.EngineAsked.{EngineAsked}
+use Rattle.engines.specs.declared.EngineNumber.{EngineNumber}
+use Rattle.engines.specs.declared.EngineAsked.TheVariants as engineAsked
 use Rattle.rules.specs.Numbers.{refusal_number, for_state, collect_values}
 use Rattle.rules.specs.World.{World}
 use Rattle.rules.specs.Commands.{submit_command}
@@ -33,6 +24,9 @@ use Rattle.rules.specs.Collections.{collect_of}
 use Rattle.rules.specs.Resets.{reset_of}
 use Rattle.rules.specs.Names.{Arguments, command as commandArguments, read_joined, engine_arguments, needed}
 use Rattle.rules.specs.Book.{Fed, on_record, close_hca, nop}
+use Rattle.rules.specs.declared.Refusal.{Refusal}
+use Rattle.rules.specs.declared.Submission.{Submission}
+use Rattle.rules.specs.declared.Submission.TheVariants as submit
 
 -- a call, with its own input: an HCR and a mailbox; an engine request's number, index, PSN and state; a slot; a slot and a
 -- buffer; nothing
@@ -45,10 +39,10 @@ pub data Call : Type 0 where
 
 -- its answer; a collection's with what the buffer holds afterwards
 pub data Answer : Type 0 where
-  submitted : SubmitAnswer → Answer
-  stepped : StepAnswer → Answer
-  collected : CollectAnswer → List ℕ → Answer
-  reset_done : ResetAnswer → Answer
+  submitted : Result Submission Refusal → Answer
+  stepped : Result ℕ Refusal → Answer
+  collected : Result ℕ Refusal → List ℕ → Answer
+  reset_done : Result (Unit {0}) Refusal → Answer
 
 abbrev pub answer_to : World → Call → Answer
 answer_to w (command bytes mail) = submitted (submit_command w bytes mail).answer
@@ -73,33 +67,33 @@ pub data Asked : Type 0 where
   asks_request : Arguments → Asked
   asks_nothing : Asked
 
-abbrev pub found_asked : CommandFound → Asked
-found_asked command'.InitHca = asks_init
-found_asked command'.CloseHca = asks_close
-found_asked command'.Nop = asks_nop
-found_asked (command'.OnRecord c) = asks_request (commandArguments c)
-found_asked command'.Wrong = asks_nothing
+abbrev pub found_asked : Option CommandAsked → Asked
+found_asked (Some asked.InitHca) = asks_init
+found_asked (Some asked.CloseHca) = asks_close
+found_asked (Some asked.Nop) = asks_nop
+found_asked (Some (asked.OnRecord c)) = asks_request (commandArguments c)
+found_asked None = asks_nothing
 
-abbrev pub op_asked : Logs → HcrCommand → OpFound → Asked
-op_asked g c (op.Served o) = found_asked (read_command g o c.op_modifier c.in_modifier)
-op_asked g c op.NotServed = asks_nothing
+abbrev pub op_asked : Logs → HcrCommand → Option Op → Asked
+op_asked g c (Some o) = found_asked (read_command g o c.op_modifier c.in_modifier)
+op_asked g c None = asks_nothing
 
-abbrev pub register_asked : Logs → ReadAnswer → Asked
-register_asked g hcr.Short = asks_nothing
-register_asked g hcr.Malformed = asks_nothing
-register_asked g (hcr.Command c) = op_asked g c (read_op c.op)
+abbrev pub register_asked : Logs → Result HcrCommand ReadError → Asked
+register_asked g (Err readError.Short) = asks_nothing
+register_asked g (Err readError.Malformed) = asks_nothing
+register_asked g (Ok c) = op_asked g c (read_op c.op)
 
 abbrev pub command_asked : Logs → List ℕ → Asked
 command_asked g bytes = register_asked g (read_of bytes)
 
-abbrev pub engine_found_asked : EngineFound → Asked
-engine_found_asked (engine.OnRecord e) = asks_request (engine_arguments e)
-engine_found_asked (engine.Joined n) = asks_request (read_joined n)
-engine_found_asked engine.Wrong = asks_nothing
+abbrev pub engine_found_asked : Option EngineAsked → Asked
+engine_found_asked (Some (engineAsked.OnRecord e)) = asks_request (engine_arguments e)
+engine_found_asked (Some (engineAsked.Joined n)) = asks_request (read_joined n)
+engine_found_asked None = asks_nothing
 
-abbrev pub number_asked : Logs → ℕ → ℕ → ℕ → NumberFound → Asked
-number_asked g index psn state (number.Served n) = engine_found_asked (read_engine g n index psn state)
-number_asked g index psn state number.NotServed = asks_nothing
+abbrev pub number_asked : Logs → ℕ → ℕ → ℕ → Option EngineNumber → Asked
+number_asked g index psn state (Some n) = engine_found_asked (read_engine g n index psn state)
+number_asked g index psn state None = asks_nothing
 
 abbrev pub engine_asked : Logs → ℕ → ℕ → ℕ → ℕ → Asked
 engine_asked g n index psn state = number_asked g index psn state (read_number n)
@@ -123,18 +117,18 @@ abbrev pub fed : Arguments → List ℕ → Fed
 fed a mail = on_record a (part 0 (needed a) mail)
 
 -- A request is accepted when its submission answers 0; a refusal is noted where its cause is the record's state (01, the same section).
-abbrev pub request_note : Arguments → List ℕ → SubmitAnswer → Note
-request_note q mail submit.Done = nothing
-request_note q mail (submit.Accepted k) = accepted (fed q mail) k
-request_note q mail (submit.Refused c) = pick (for_state c) (refused (fed q mail) (refusal_number c)) nothing
+abbrev pub request_note : Arguments → List ℕ → Result Submission Refusal → Note
+request_note q mail (Ok submit.Done) = nothing
+request_note q mail (Ok (submit.Accepted k)) = accepted (fed q mail) k
+request_note q mail (Err c) = pick (for_state c) (refused (fed q mail) (refusal_number c)) nothing
 
 -- CLOSE_HCA and NOP are finished at once, with an empty answer.
-abbrev pub once_note : Fed → SubmitAnswer → Note
-once_note f submit.Done = finished f []
-once_note f (submit.Accepted k) = nothing
-once_note f (submit.Refused c) = nothing
+abbrev pub once_note : Fed → Result Submission Refusal → Note
+once_note f (Ok submit.Done) = finished f []
+once_note f (Ok (submit.Accepted k)) = nothing
+once_note f (Err c) = nothing
 
-abbrev pub submit_note : List ℕ → Asked → SubmitAnswer → Note
+abbrev pub submit_note : List ℕ → Asked → Result Submission Refusal → Note
 submit_note mail asks_init a = nothing
 submit_note mail asks_close a = once_note close_hca a
 submit_note mail asks_nop a = once_note nop a
@@ -142,9 +136,9 @@ submit_note mail (asks_request q) a = request_note q mail a
 submit_note mail asks_nothing a = nothing
 
 -- Its answer is what collecting it wrote: that many bytes at the front of the buffer.
-abbrev pub collect_note : ℕ → List ℕ → CollectAnswer → Note
-collect_note k out (collect.Collected n) = emptied k (collect_values (collect.Collected n) out)
-collect_note k out (collect.Refused c) = nothing
+abbrev pub collect_note : ℕ → List ℕ → Result ℕ Refusal → Note
+collect_note k out (Ok n) = emptied k (collect_values (Ok n) out)
+collect_note k out (Err c) = nothing
 
 -- by call and answer; g gives the counts of the initialisation
 abbrev pub note_of : Logs → Call → Answer → Note
@@ -165,10 +159,10 @@ note_of g resetting a = nothing
 
 -- ---- where a list of calls begins, and where it ends
 
-abbrev pub is_done : SubmitAnswer → Bool
-is_done submit.Done = true
-is_done (submit.Accepted k) = false
-is_done (submit.Refused c) = false
+abbrev pub is_done : Result Submission Refusal → Bool
+is_done (Ok submit.Done) = true
+is_done (Ok (submit.Accepted k)) = false
+is_done (Err c) = false
 
 abbrev pub is_init : Asked → Bool
 is_init asks_init = true
@@ -190,9 +184,9 @@ begins w (collection k out) = false
 begins w resetting = false
 
 -- a list of calls ends before a call that begins the next, or before a reset that answers 0
-abbrev pub reset_ends : ResetAnswer → Bool
-reset_ends reset.Done = true
-reset_ends (reset.Refused c) = false
+abbrev pub reset_ends : Result (Unit {0}) Refusal → Bool
+reset_ends (Ok tt) = true
+reset_ends (Err c) = false
 
 abbrev pub stops : World → Call → Bool
 stops w (command bytes mail) = initialises w bytes mail

@@ -1,5 +1,5 @@
 -- A collection: the answer of a finished slot's request, and the slot freed.
-use Rattle.std.specs.Prelude.{List, ℕ, ltb, length, get_or, set}
+use Rattle.std.specs.Prelude.{List, ℕ, ltb, length, get_or, set, Result, Ok, Err}
 use Rattle.words.specs.Choice.{pick}
 use Rattle.words.specs.Parts.{splice}
 use Rattle.requests.specs.declared.Request.{Request}
@@ -10,20 +10,18 @@ use Rattle.slots.specs.declared.Status.{Status}
 use Rattle.slots.specs.declared.Status.TheVariants.{Free, Running, Finished}
 use Rattle.rules.specs.declared.Refusal.{Refusal}
 use Rattle.rules.specs.declared.Refusal.TheVariants as cause
-use Rattle.rules.specs.declared.CollectAnswer.{CollectAnswer}
-use Rattle.rules.specs.declared.CollectAnswer.TheVariants as collect
 use Rattle.rules.specs.World.{World, with_row, status_at, bad_lent, bad_state}
 
 pub record Collected : Type 0 where
-  pub answer : CollectAnswer
+  pub answer : Result ℕ Refusal
   pub world : World
   pub out : List ℕ
 
-abbrev pub collected : CollectAnswer → World → List ℕ → Collected
+abbrev pub collected : Result ℕ Refusal → World → List ℕ → Collected
 collected a w out = record { answer = a; world = w; out = out }
 
 abbrev pub collect_refused : World → List ℕ → Refusal → Collected
-collect_refused w out c = collected (collect.Refused c) w out
+collect_refused w out c = collected (Err c) w out
 
 -- what collecting a slot's request writes: read from the slot's part of the room as it stands
 unfoldable pub answer_at : World → ℕ → Request → List ℕ
@@ -37,7 +35,7 @@ world_freed w k = with_row w (set w.row k (freed (get_or w.row k (slot Free))))
 unfoldable pub collect_finished : World → ℕ → List ℕ → Request → Collected
 collect_finished w k out q =
     pick (ltb (length out) (answer_size q)) (collect_refused w out cause.ShortBuffer)
-    (collected (collect.Collected (answer_size q)) (world_freed w k) (splice 0 (answer_at w k q) out))
+    (collected (Ok (answer_size q)) (world_freed w k) (splice 0 (answer_at w k q) out))
 
 -- There is such a slot, and its request is finished (01, Numbers returned, 0x84 and 0x86).
 unfoldable pub collect_on : World → ℕ → List ℕ → Status → Collected

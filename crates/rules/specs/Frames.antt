@@ -22,7 +22,7 @@
 --   behind its 28, or on the room behind its eight parts.
 --
 -- What is not claimed here: which calls are refused, and with which number; that is what the rules say.
-use Rattle.std.specs.Prelude.{◌≡◌, Bool, true, false, List, ◌++◌, ℕ, ◌+◌, ◌-◌, ◌/◌, ◌≤◌, ◌<◌, eqb, ltb, length, get_or}
+use Rattle.std.specs.Prelude.{◌≡◌, Bool, true, false, List, ◌++◌, ℕ, ◌+◌, ◌-◌, ◌/◌, ◌≤◌, ◌<◌, eqb, ltb, length, get_or, Result, Ok, Err}
 use Rattle.words.specs.Choice.{pick}
 use Rattle.words.specs.Parts.{splice}
 use Rattle.context.specs.Layout.{is_record, record_size}
@@ -39,14 +39,6 @@ use Rattle.bursts.specs.Copies.{copy, copies}
 use Rattle.bursts.specs.Room.{room_of, front_of}
 use Rattle.records.specs.Memory.{record_in, joined_in, InBurst, Behind}
 use Rattle.slots.specs.declared.Status.TheVariants.{Free, Running, Finished}
-use Rattle.rules.specs.declared.SubmitAnswer.{SubmitAnswer}
-use Rattle.rules.specs.declared.SubmitAnswer.TheVariants as submit
-use Rattle.rules.specs.declared.StepAnswer.{StepAnswer}
-use Rattle.rules.specs.declared.StepAnswer.TheVariants as stepping
-use Rattle.rules.specs.declared.CollectAnswer.{CollectAnswer}
-use Rattle.rules.specs.declared.CollectAnswer.TheVariants as collecting
-use Rattle.rules.specs.declared.ResetAnswer.{ResetAnswer}
-use Rattle.rules.specs.declared.ResetAnswer.TheVariants as resets
 use Rattle.rules.specs.World.{World, with_room, status_at}
 use Rattle.rules.specs.Commands.{submit_command}
 use Rattle.rules.specs.Steps.{step_of}
@@ -57,25 +49,28 @@ use Rattle.rules.specs.Book.{on_record}
 use Rattle.rules.specs.Calls.{Call, command, engine_request, step, collection, resetting, Answer, submitted, stepped}
 use Rattle.rules.specs.Calls.{collected, reset_done, Asked, asks_init, asks_close, asks_nop, asks_request, asks_nothing}
 use Rattle.rules.specs.Calls.{accepted, answer_to, world_after, command_asked, note_of, is_done, begins, reset_ends}
+use Rattle.rules.specs.declared.Refusal.{Refusal}
+use Rattle.rules.specs.declared.Submission.{Submission}
+use Rattle.rules.specs.declared.Submission.TheVariants as submit
 
 -- ---- a refusal
 
-abbrev pub refused_submit : SubmitAnswer → Bool
-refused_submit submit.Done = false
-refused_submit (submit.Accepted k) = false
-refused_submit (submit.Refused c) = true
+abbrev pub refused_submit : Result Submission Refusal → Bool
+refused_submit (Ok submit.Done) = false
+refused_submit (Ok (submit.Accepted k)) = false
+refused_submit (Err c) = true
 
-abbrev pub refused_step : StepAnswer → Bool
-refused_step (stepping.Left n) = false
-refused_step (stepping.Refused c) = true
+abbrev pub refused_step : Result ℕ Refusal → Bool
+refused_step (Ok n) = false
+refused_step (Err c) = true
 
-abbrev pub refused_collect : CollectAnswer → Bool
-refused_collect (collecting.Collected n) = false
-refused_collect (collecting.Refused c) = true
+abbrev pub refused_collect : Result ℕ Refusal → Bool
+refused_collect (Ok n) = false
+refused_collect (Err c) = true
 
-abbrev pub refused_reset : ResetAnswer → Bool
-refused_reset resets.Done = false
-refused_reset (resets.Refused c) = true
+abbrev pub refused_reset : Result (Unit {0}) Refusal → Bool
+refused_reset (Ok tt) = false
+refused_reset (Err c) = true
 
 abbrev pub refused_by : Answer → Bool
 refused_by (submitted a) = refused_submit a
@@ -110,7 +105,7 @@ Refusals =
 abbrev pub Steps : Type 0
 Steps =
     (w : World) (k : ℕ) (q : Request) (m : ℕ) → status_at k w.row ≡ Running m q → refused_step (step_of w k).answer ≡ false
-    → ((step_of w k).answer ≡ stepping.Left (total_of q - (m + 1)))
+    → ((step_of w k).answer ≡ Ok (total_of q - (m + 1)))
     × (status_at k (step_of w k).world.row ≡ pick (ltb (m + 1) (total_of q)) (Running (m + 1) q) (Finished (total_of q) q))
 
 -- q is finished in slot k, and the collection is not refused
@@ -118,7 +113,7 @@ abbrev pub Collects : Type 0
 Collects =
     (w : World) (k : ℕ) (out : List ℕ) (q : Request) (m : ℕ) → status_at k w.row ≡ Finished m q
     → refused_collect (collect_of w k out).answer ≡ false
-    → ((collect_of w k out).answer ≡ collecting.Collected (answer_size q))
+    → ((collect_of w k out).answer ≡ Ok (answer_size q))
     × (status_at k (collect_of w k out).world.row ≡ Free)
     × ((collect_of w k out).out ≡ splice 0 (answer_at w k q) out)
 
@@ -202,9 +197,9 @@ SlotTaken =
 
 -- the slot that a submission takes
 abbrev pub takes_slot : Answer → ℕ → Bool
-takes_slot (submitted submit.Done) j = false
-takes_slot (submitted (submit.Accepted k)) j = eqb k j
-takes_slot (submitted (submit.Refused c)) j = false
+takes_slot (submitted (Ok submit.Done)) j = false
+takes_slot (submitted (Ok (submit.Accepted k))) j = eqb k j
+takes_slot (submitted (Err c)) j = false
 takes_slot (stepped a) j = false
 takes_slot (collected a out) j = false
 takes_slot (reset_done a) j = false
@@ -275,9 +270,9 @@ Sizes =
     × (length (world_after w c).room ≡ length w.room)
 
 -- how many bytes of the buffer an answer has
-abbrev pub answer_bytes : CollectAnswer → ℕ
-answer_bytes (collecting.Collected n) = n
-answer_bytes (collecting.Refused c) = 0
+abbrev pub answer_bytes : Result ℕ Refusal → ℕ
+answer_bytes (Ok n) = n
+answer_bytes (Err c) = 0
 
 -- the answer is written at the front of the lent buffer, and the rest of it stays
 abbrev pub Buffers : Type 0

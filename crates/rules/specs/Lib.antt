@@ -2,6 +2,7 @@
 --
 -- The rules: the numbers returned, what is lent, and the calls; each definition has its rule above it, with the section of 01.
 pub mod Numbers
+pub mod Causes
 pub mod World
 pub mod Names
 pub mod Admission

@@ -1,5 +1,5 @@
 -- What is asked for, and the names that complete it: a request's arguments, and what a joined read finds named in records (02, wish 2).
-use Rattle.std.specs.Prelude.{List, [], ◌∷◌, ◌++◌, ℕ}
+use Rattle.std.specs.Prelude.{List, [], ◌∷◌, ◌++◌, ℕ, Option, Some, None}
 use Rattle.context.specs.declared.CqNumber.{CqNumber}
 use Rattle.context.specs.declared.Logs.{Logs}
 use Rattle.context.specs.declared.QpNumber.{QpNumber}
@@ -14,10 +14,6 @@ use Rattle.requests.specs.declared.EngineRequest.TheVariants as engine
 use Rattle.requests.specs.declared.Request.{Request}
 use Rattle.requests.specs.declared.Request.TheVariants as request
 use Rattle.numbers.specs.Numbers.{cq_of, eq_of}
-use Rattle.numbers.specs.declared.CqFound.{CqFound}
-use Rattle.numbers.specs.declared.CqFound.TheVariants as cqFound
-use Rattle.numbers.specs.declared.EqFound.{EqFound}
-use Rattle.numbers.specs.declared.EqFound.TheVariants as eqFound
 use Rattle.mailboxes.specs.Mailboxes.{command_need}
 use Rattle.checks.specs.Fields.{cq_named, eq_named}
 
@@ -64,13 +60,13 @@ joins n c e = request.Engine (engine.ReadJoined n c e)
 
 -- The event queue is the one named in word 10h of the completion queue, and that is the one named in word 70h of the queue pair; a name is
 -- in range if it is below the count of its kind (02, wish 2).
-abbrev pub eq_names : QpNumber → CqNumber → EqFound → Named
-eq_names n c (eqFound.Number e) = found (joins n c e)
-eq_names n c eqFound.OutOfRange = lost
+abbrev pub eq_names : QpNumber → CqNumber → Option EqNumber → Named
+eq_names n c (Some e) = found (joins n c e)
+eq_names n c None = lost
 
-abbrev pub cq_names : Logs → (Record → List ℕ) → QpNumber → CqFound → Named
-cq_names g s n (cqFound.Number c) = eq_names n c (eq_of g (eq_named (s (rec.Cq c))))
-cq_names g s n cqFound.OutOfRange = lost
+abbrev pub cq_names : Logs → (Record → List ℕ) → QpNumber → Option CqNumber → Named
+cq_names g s n (Some c) = eq_names n c (eq_of g (eq_named (s (rec.Cq c))))
+cq_names g s n None = lost
 
 -- The request that is asked for, with the names that these records have.
 abbrev pub named_in : Logs → (Record → List ℕ) → Arguments → Named

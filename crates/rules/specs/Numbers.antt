@@ -1,18 +1,12 @@
 -- 01, Numbers returned: the number of each cause, and for each answer its number and the values that it has.
-use Rattle.std.specs.Prelude.{Bool, true, false, List, [], ◌∷◌, ℕ, take}
+use Rattle.std.specs.Prelude.{Bool, true, false, List, [], ◌∷◌, ℕ, take, Result, Ok, Err}
 use Rattle.checks.specs.Verdicts.{denial_number}
 use Rattle.checks.specs.declared.Denial.{Denial}
 use Rattle.checks.specs.declared.Denial.TheVariants as denial
 use Rattle.rules.specs.declared.Refusal.{Refusal}
 use Rattle.rules.specs.declared.Refusal.TheVariants as cause
-use Rattle.rules.specs.declared.SubmitAnswer.{SubmitAnswer}
-use Rattle.rules.specs.declared.SubmitAnswer.TheVariants as submit
-use Rattle.rules.specs.declared.StepAnswer.{StepAnswer}
-use Rattle.rules.specs.declared.StepAnswer.TheVariants as step
-use Rattle.rules.specs.declared.CollectAnswer.{CollectAnswer}
-use Rattle.rules.specs.declared.CollectAnswer.TheVariants as collect
-use Rattle.rules.specs.declared.ResetAnswer.{ResetAnswer}
-use Rattle.rules.specs.declared.ResetAnswer.TheVariants as reset
+use Rattle.rules.specs.declared.Submission.{Submission}
+use Rattle.rules.specs.declared.Submission.TheVariants as submit
 
 -- the causes in the order of the table, top to bottom; two may share a number
 abbrev pub refusal_number : Refusal → ℕ
@@ -32,38 +26,43 @@ refusal_number cause.Held = 0x81
 refusal_number (cause.Denied d) = denial_number d
 refusal_number cause.Full = 0x82
 
--- 0 means done or accepted. An acceptance also gives the slot.
-abbrev pub submit_number : SubmitAnswer → ℕ
-submit_number submit.Done = 0
-submit_number (submit.Accepted k) = 0
-submit_number (submit.Refused c) = refusal_number c
+-- 0 means done or accepted: of every answer, whatever it gives beside it.
+abbrev pub number_of : {A : Type 0} → Result A Refusal → ℕ
+number_of (Ok a) = 0
+number_of (Err c) = refusal_number c
 
-abbrev pub submit_values : SubmitAnswer → List ℕ
-submit_values submit.Done = []
-submit_values (submit.Accepted k) = k ∷ []
-submit_values (submit.Refused c) = []
+-- An acceptance also gives the slot.
+abbrev pub submit_number : Result Submission Refusal → ℕ
+submit_number (Ok submit.Done) = 0
+submit_number (Ok (submit.Accepted k)) = 0
+submit_number (Err c) = refusal_number c
+
+abbrev pub submit_values : Result Submission Refusal → List ℕ
+submit_values (Ok submit.Done) = []
+submit_values (Ok (submit.Accepted k)) = k ∷ []
+submit_values (Err c) = []
 
 -- A step gives the bursts still to move.
-abbrev pub step_number : StepAnswer → ℕ
-step_number (step.Left n) = 0
-step_number (step.Refused c) = refusal_number c
+abbrev pub step_number : Result ℕ Refusal → ℕ
+step_number (Ok n) = 0
+step_number (Err c) = refusal_number c
 
-abbrev pub step_values : StepAnswer → List ℕ
-step_values (step.Left n) = n ∷ []
-step_values (step.Refused c) = []
+abbrev pub step_values : Result ℕ Refusal → List ℕ
+step_values (Ok n) = n ∷ []
+step_values (Err c) = []
 
 -- A collection gives the bytes of the answer, which stand at the front of the buffer.
-abbrev pub collect_number : CollectAnswer → ℕ
-collect_number (collect.Collected n) = 0
-collect_number (collect.Refused c) = refusal_number c
+abbrev pub collect_number : Result ℕ Refusal → ℕ
+collect_number (Ok n) = 0
+collect_number (Err c) = refusal_number c
 
-abbrev pub collect_values : CollectAnswer → List ℕ → List ℕ
-collect_values (collect.Collected n) out = take n out
-collect_values (collect.Refused c) out = []
+abbrev pub collect_values : Result ℕ Refusal → List ℕ → List ℕ
+collect_values (Ok n) out = take n out
+collect_values (Err c) out = []
 
-abbrev pub reset_number : ResetAnswer → ℕ
-reset_number reset.Done = 0
-reset_number (reset.Refused c) = refusal_number c
+abbrev pub reset_number : Result (Unit {0}) Refusal → ℕ
+reset_number (Ok tt) = 0
+reset_number (Err c) = refusal_number c
 
 -- Which causes are the record's state: the edge is not permitted, or the owner is the wrong one (01, The plain book of demand 3); the edge
 -- is not permitted for the record's service type (02, wish 5); and a name in the record is out of range (02, wish 2).

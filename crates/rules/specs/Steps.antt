@@ -1,5 +1,5 @@
 -- A step: one burst of one slot's request.
-use Rattle.std.specs.Prelude.{List, ℕ, get_or, set}
+use Rattle.std.specs.Prelude.{List, ℕ, get_or, set, Result, Ok, Err}
 use Rattle.words.specs.Choice.{pick}
 use Rattle.requests.specs.declared.Request.{Request}
 use Rattle.request_table.specs.Records.{writes_of}
@@ -12,19 +12,17 @@ use Rattle.slots.specs.declared.Status.{Status}
 use Rattle.slots.specs.declared.Status.TheVariants.{Free, Running, Finished}
 use Rattle.rules.specs.declared.Refusal.{Refusal}
 use Rattle.rules.specs.declared.Refusal.TheVariants as cause
-use Rattle.rules.specs.declared.StepAnswer.{StepAnswer}
-use Rattle.rules.specs.declared.StepAnswer.TheVariants as step
 use Rattle.rules.specs.World.{World, with_row, with_memory, with_room, status_at, bad_lent, bad_state}
 
 pub record Stepped : Type 0 where
-  pub answer : StepAnswer
+  pub answer : Result ℕ Refusal
   pub world : World
 
-abbrev pub stepped : StepAnswer → World → Stepped
+abbrev pub stepped : Result ℕ Refusal → World → Stepped
 stepped a w = record { answer = a; world = w }
 
 abbrev pub step_refused : World → Refusal → Stepped
-step_refused w c = stepped (step.Refused c) w
+step_refused w c = stepped (Err c) w
 
 -- A write changes its next burst in the record, by the mailbox bytes that stand in the room (01, Bursts, slots and holds).
 unfoldable pub memory_moved : World → ℕ → Request → ℕ → Memory
@@ -45,7 +43,7 @@ world_moved w k q m = with_room (with_memory (with_row w (set w.row k (slot_move
 -- There is such a slot, and its request runs (01, Numbers returned, 0x84). The answer has the bursts still to move.
 unfoldable pub step_on : World → ℕ → Status → Stepped
 step_on w k Free = step_refused w cause.NoRequest
-step_on w k (Running m q) = stepped (step.Left (left_of (slot_moved w k))) (world_moved w k q m)
+step_on w k (Running m q) = stepped (Ok (left_of (slot_moved w k))) (world_moved w k q m)
 step_on w k (Finished m q) = step_refused w cause.NoRequest
 
 -- lent memory and state are tested first, as by every call but reset

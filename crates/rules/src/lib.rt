@@ -2,12 +2,17 @@
 // leaves is defined in specs/.
 #![tactic(auto)]
 
+ghost use Rattle.std.specs.Prelude.{◌≡◌};
+ghost use Rattle.rules.specs.Causes.{of_read_error, of_init_error};
+ghost use Rattle.rules.specs.declared.Refusal.TheVariants.{Denied};
+
 use checks::Denial;
-use context::Logs;
+use context::{InitError, Logs};
+use hcr::ReadError;
 use requests::Request;
 
 // Why a call is refused, in the order of document 01's table. Two causes may share a number.
-#[derive(Clone, Copy)]
+#[derive(Clone, Copy, Debug, PartialEq, Eq)]
 pub enum Refusal {
     // The row is not 8 long, the room is too short, the store's length is not the one that INIT_HCA
     // was lent, or the HCR is below 28 bytes.
@@ -43,10 +48,41 @@ pub enum Refusal {
     Full,
 }
 
-// What is decided of a submission from what is lent, before anything is changed.
-#[derive(Drop)]
+impl From<ReadError> for Refusal {
+    ghost from_gives = { λ error cause. cause ≡ of_read_error error };
+
+    fn from(error: ReadError) -> Refusal {
+        match error {
+            ReadError::Short => Refusal::BadLength,
+            ReadError::Malformed => Refusal::Malformed,
+        }
+    }
+}
+
+impl From<InitError> for Refusal {
+    ghost from_gives = { λ error cause. cause ≡ of_init_error error };
+
+    fn from(error: InitError) -> Refusal {
+        match error {
+            InitError::ShortMailbox => Refusal::ShortMailbox,
+            InitError::OutOfRange => Refusal::BadContent,
+        }
+    }
+}
+
+impl From<Denial> for Refusal {
+    ghost from_gives = { λ denial cause. cause ≡ Denied denial };
+
+    fn from(denial: Denial) -> Refusal {
+        Refusal::Denied(denial)
+    }
+}
+
+// What is decided of a submission from what is lent, before anything is changed. The answer of the other
+// calls has no type of its own: a step answers the bursts still to move, a collection how many bytes of
+// the buffer hold the answer, and a reset nothing, each or a refusal.
+#[derive(Clone, Copy)]
 pub enum Decision {
-    Refuse(Refusal),
     // NOP: done at once, and nothing changes.
     Nothing,
     // CLOSE_HCA.
@@ -57,30 +93,9 @@ pub enum Decision {
     Take(Request, usize),
 }
 
-// A submission: a command done at once, a request accepted into a slot, or a refusal.
+// A submission that is not refused: a command done at once, or a request accepted into a slot.
 #[derive(Clone, Copy)]
-pub enum SubmitAnswer {
+pub enum Submission {
     Done,
     Accepted(usize),
-    Refused(Refusal),
-}
-
-// A step: the bursts still to move.
-#[derive(Clone, Copy)]
-pub enum StepAnswer {
-    Left(u8),
-    Refused(Refusal),
-}
-
-// A collection: how many bytes of the buffer hold the answer.
-#[derive(Clone, Copy)]
-pub enum CollectAnswer {
-    Collected(usize),
-    Refused(Refusal),
-}
-
-#[derive(Clone, Copy)]
-pub enum ResetAnswer {
-    Done,
-    Refused(Refusal),
 }

@@ -2,17 +2,17 @@
 #![tactic(auto)]
 
 use script_keywords::{Call, Device, Keyword};
-use script_session::{Session, after};
-use std::io;
+use script_lines::{LineError, LineResult};
+use script_session::Session;
 
 fn run_call(
     rt: &impl Print,
     call: Call,
-    session: Session,
+    session: &mut Session,
     line: &[u8],
     store: &mut [u8],
     room: &mut [u8],
-) -> io::Result<Session> {
+) -> LineResult<()> {
     match call {
         Call::Command => script_submits::command(rt, session, line, store, room),
         Call::Engine => script_submits::engine(rt, session, line, store, room),
@@ -25,9 +25,9 @@ fn run_call(
 fn run_device(
     rt: &impl Print,
     device: Device,
-    session: Session,
+    session: &mut Session,
     line: &[u8],
-) -> io::Result<Session> {
+) -> LineResult<()> {
     match device {
         Device::State => script_session::state(rt, session, line),
         Device::Slot => script_session::slot(rt, session, line),
@@ -39,19 +39,21 @@ fn run_device(
 // Runs a line.
 pub fn run_line(
     rt: &impl Print,
-    session: Session,
+    session: &mut Session,
     line: &[u8],
     store: &mut [u8],
     room: &mut [u8],
-) -> io::Result<Session> {
+) -> LineResult<()> {
     match script_keywords::read_keyword(script_words::word(line, 0)) {
         Keyword::Call(call) => run_call(rt, call, session, line, store, room),
         Keyword::Memory(memory) => {
             let answers = session.answers;
-            let lending = script_memory::run(rt, memory, session.lent, line, store, room, answers)?;
-            Ok(script_session::relend(session, lending))
+            let lent = &mut session.lent;
+            let device = script_memory::run(rt, memory, lent, line, store, room, answers)?;
+            script_session::relend(session, device);
+            Ok(())
         }
         Keyword::Device(device) => run_device(rt, device, session, line),
-        Keyword::Unknown => Ok(after(session, false)),
+        Keyword::Unknown => Err(LineError::Format),
     }
 }

@@ -1,26 +1,24 @@
 -- The bytes that a word of a script stands for, and the text of bytes: two digits for each, the high one first.
-use Rattle.std.specs.Prelude.{◌≡◌, Bool, true, false, List, [], ◌∷◌, ℕ, ◌+◌, ◌*◌, ◌/◌, ◌%◌, ◌≤◌, min, eqb, ltb, leb, length, get_or, take}
+use Rattle.std.specs.Prelude.{◌≡◌, Bool, true, false, List, [], ◌∷◌, ℕ, ◌+◌, ◌*◌, ◌/◌, ◌%◌, ◌≤◌, min, eqb, ltb, leb, length, get_or, take, Option, Some, None, is_some, unwrap_or}
 use Rattle.words.specs.Choice.{pick}
 use Rattle.script_words.specs.Words.{same_word}
 use Rattle.script_numbers.specs.Numbers.{digit_of}
-use Rattle.script_bytes.specs.declared.BytesFound.{BytesFound}
-use Rattle.script_bytes.specs.declared.BytesFound.TheVariants.{Bytes, Wrong}
 
 -- whether each character is a digit
 unfoldable pub all_digits : List ℕ → Bool
 all_digits [] = true
-all_digits (x ∷ xs) = pick (ltb 15 (digit_of x)) false (all_digits xs)
+all_digits (x ∷ xs) = pick (is_some (digit_of x)) (all_digits xs) false
 
 -- how many bytes a word stands for: none if it is `-` (45); else it has a digit, and two for each byte
-unfoldable pub count_of : List ℕ → BytesFound
+unfoldable pub count_of : List ℕ → Option ℕ
 count_of w =
-    pick (same_word w (45 ∷ [])) (Bytes 0)
-    (pick (eqb (length w) 0) Wrong
-    (pick (eqb (length w % 2) 0) (pick (all_digits w) (Bytes (length w / 2)) Wrong) Wrong))
+    pick (same_word w (45 ∷ [])) (Some 0)
+    (pick (eqb (length w) 0) None
+    (pick (eqb (length w % 2) 0) (pick (all_digits w) (Some (length w / 2)) None) None))
 
 -- the byte of two digits. A character that is none, which `count_of` refuses, counts as 15
 abbrev pub pair_of : ℕ → ℕ → ℕ
-pair_of high low = digit_of high % 16 * 16 + digit_of low % 16
+pair_of high low = unwrap_or (digit_of high) 15 % 16 * 16 + unwrap_or (digit_of low) 15 % 16
 
 -- byte i of what a word stands for; where it has none, the byte that was there
 abbrev pub byte_of : List ℕ → ℕ → ℕ → ℕ

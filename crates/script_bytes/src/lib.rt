@@ -7,61 +7,44 @@ ghost use Rattle.script_bytes.specs.Bytes.{all_digits, count_of, pair_of, byte_o
 
 use script_numbers::digit;
 
-#[derive(Drop)]
-pub enum BytesFound {
-    // How many bytes there are.
-    Bytes(usize),
-    Wrong,
-}
-
 // How many of `n` bytes a slice has.
 pub fn front(n: usize, bytes: &[u8]) -> usize
     ensures { Front n bytes.now result }
 {
-    if bytes.len() < n {
-        return bytes.len();
-    }
-    n
+    n.min(bytes.len())
 }
 
 // Whether every character of a word is a hexadecimal digit.
 fn all_digits(word: &[u8]) -> bool
     ensures { result ≡ all_digits word.now }
 {
-    let mut i = 0;
-    while i < word.len() {
-        if 15 < digit(word[i]) {
-            return false;
-        }
-        i += 1;
-    }
-    true
+    word.iter().all(|character| digit(*character).is_some())
 }
 
 // How many bytes a word stands for.
-pub fn count(word: &[u8]) -> BytesFound
+pub fn count(word: &[u8]) -> Option<usize>
     ensures { result ≡ count_of word.now }
 {
     if script_words::same(word, b"-") {
-        return BytesFound::Bytes(0);
+        return Some(0);
     }
-    if word.len() == 0 {
-        return BytesFound::Wrong;
+    if word.is_empty() {
+        return None;
     }
     if word.len() % 2 != 0 {
-        return BytesFound::Wrong;
+        return None;
     }
     if !all_digits(word) {
-        return BytesFound::Wrong;
+        return None;
     }
-    BytesFound::Bytes(word.len() / 2)
+    Some(word.len() / 2)
 }
 
-// The byte of a pair of digits.
+// The byte of a pair of digits. A character that is none counts as 15.
 fn pair(high: u8, low: u8) -> u8
     ensures { result ≡ pair_of high low }
 {
-    digit(high) % 16 * 16 + digit(low) % 16
+    digit(high).unwrap_or(15) % 16 * 16 + digit(low).unwrap_or(15) % 16
 }
 
 // Byte i of what a word stands for; `old` where it has none.
@@ -78,10 +61,8 @@ fn byte_at(word: &[u8], i: usize, old: u8) -> u8
 pub fn fill(word: &[u8], out: &mut [u8])
     ensures { out.new ≡ map_from (byte_of word.now) 0 out.old }
 {
-    let mut i = 0;
-    while i < out.len() {
-        out[i] = byte_at(word, i, out[i]);
-        i += 1;
+    for (i, byte) in out.iter_mut().enumerate() {
+        *byte = byte_at(word, i, *byte);
     }
 }
 
@@ -90,32 +71,29 @@ fn character(digit: u8) -> u8
     ensures { result ≡ character_of digit }
 {
     if digit < 10 {
-        return digit + 0x30;
+        return digit + b'0';
     }
-    digit % 16 + 0x57
+    digit % 16 + (b'a' - 10)
 }
 
 // Character j of the text of some bytes; `old` where it has none.
 fn character_at(bytes: &[u8], j: usize, old: u8) -> u8
     ensures { result ≡ text_of bytes.now j old }
 {
-    let i = j / 2;
-    if bytes.len() <= i {
+    let Some(byte) = bytes.get(j / 2) else {
         return old;
-    }
+    };
     if j % 2 == 0 {
-        return character(bytes[i] / 16);
+        return character(*byte / 16);
     }
-    character(bytes[i] % 16)
+    character(*byte % 16)
 }
 
 // Writes bytes as pairs of digits into `text`, as many as fit.
 pub fn spell(bytes: &[u8], text: &mut [u8])
     ensures { text.new ≡ map_from (text_of bytes.now) 0 text.old }
 {
-    let mut j = 0;
-    while j < text.len() {
-        text[j] = character_at(bytes, j, text[j]);
-        j += 1;
+    for (j, character) in text.iter_mut().enumerate() {
+        *character = character_at(bytes, j, *character);
     }
 }

@@ -6,7 +6,7 @@ ghost use Rattle.std.specs.Prelude.{◌≡◌, ◌≤◌, length, take, IfOk, On
 use std::io;
 use std::io::Read;
 
-pub const NEWLINE: u8 = 0x0a;
+pub const NEWLINE: u8 = b'\n';
 
 // How many bytes the buffer then has, and whether the input has ended.
 #[derive(Drop)]
@@ -33,14 +33,10 @@ pub fn whole_lines(bytes: &[u8], to: usize) -> usize
     requires { to ≤ length bytes.now }
     ensures { (result ≤ to) × (result ≡ length (take result bytes.now)) }
 {
-    let mut n = to;
-    while 0 < n {
-        if bytes[n - 1] == NEWLINE {
-            return n;
-        }
-        n -= 1;
+    match bytes[..to].iter().rposition(|byte| *byte == NEWLINE) {
+        Some(n) => n + 1,
+        None => 0,
     }
-    0
 }
 
 // Moves the bytes from `from` to `to` to the front, and answers how many there are.
@@ -54,10 +50,8 @@ fn to_front(bytes: &mut [u8], from: usize, to: usize) -> usize
         return 0;
     }
     let n = to - from;
-    let mut i = 0;
-    while i < n {
+    for i in 0..n {
         bytes[i] = bytes[from + i];
-        i += 1;
     }
     n
 }

@@ -1,14 +1,11 @@
 -- The turns of the loop over a line's numbers, and the tests before it.
-use Rattle.std.specs.Prelude.{◌≡◌, refl, Bool, true, false, List, ℕ, zero, suc, ◌+◌, ◌-◌, ◌≤◌, ◌<◌, eqb, leb, set, replicate}
-use Rattle.std.proofs.Common.{sym, ◌∙◌, ap, arith, eq-eqb, ne_eqb, le-leb}
+use Rattle.std.specs.Prelude.{◌≡◌, refl, Bool, true, false, List, ℕ, suc, ◌+◌, ◌-◌, ◌≤◌, ◌<◌, set, replicate, Option, Some, None}
+use Rattle.std.proofs.Common.{arith, eq-eqb, ne_eqb, le-leb}
 use Rattle.std.proofs.lemmas.Bool.{lt-leb}
 use Rattle.words.specs.Choice.{both}
 use Rattle.words.proofs.Choice.{pick_yes, pick_no}
 use Rattle.script_words.specs.Words.{spaces}
-use Rattle.script_numbers.specs.declared.NumberFound.{NumberFound}
-use Rattle.script_numbers.specs.declared.NumberFound.TheVariants as found
-use Rattle.script_lines.specs.Lines.{wrong_numbers, number_at, numbers_from, numbers_of}
-use Rattle.script_lines.specs.declared.LineNumbers.{LineNumbers}
+use Rattle.script_lines.specs.Lines.{number_at, numbers_from, numbers_of}
 
 -- ---- the tests: w words, as the line has them
 
@@ -21,22 +18,22 @@ both_second p q e f = rw (e, f)
 both_hold : (p q : Bool) → p ≡ true → q ≡ true → both p q ≡ true
 both_hold p q e f = rw (e, f)
 
-pub too_few : (l : List ℕ) (from count w : ℕ) (r : LineNumbers) → w ≡ spaces l + 1 → w < from → r ≡ wrong_numbers → r ≡ numbers_of l from count
+pub too_few : (l : List ℕ) (from count w : ℕ) → w ≡ spaces l + 1 → w < from → None ≡ numbers_of l from count
 unfolding numbers_of
-too_few l from count w r e h k =
-    pick_no _ _ _ _ (both_first _ _ (ne_eqb _ _ (λ (z : spaces l + 1 ≡ from + count). absurd (omega (arith, e, h, z))))) k
+too_few l from count w e h =
+    pick_no _ _ _ _ (both_first _ _ (ne_eqb _ _ (λ (z : spaces l + 1 ≡ from + count). absurd (omega (arith, e, h, z))))) refl
 
-pub other_count : (l : List ℕ) (from count w : ℕ) (r : LineNumbers) → w ≡ spaces l + 1 → from ≤ w → (w - from ≡ count → ⊥)
-    → r ≡ wrong_numbers → r ≡ numbers_of l from count
+pub other_count : (l : List ℕ) (from count w : ℕ) → w ≡ spaces l + 1 → from ≤ w → (w - from ≡ count → ⊥)
+    → None ≡ numbers_of l from count
 unfolding numbers_of
-other_count l from count w r e g n k =
-    pick_no _ _ _ _ (both_first _ _ (ne_eqb _ _ (λ (z : spaces l + 1 ≡ from + count). n (omega (arith, e, g, z))))) k
+other_count l from count w e g n =
+    pick_no _ _ _ _ (both_first _ _ (ne_eqb _ _ (λ (z : spaces l + 1 ≡ from + count). n (omega (arith, e, g, z))))) refl
 
-pub too_many : (l : List ℕ) (from count w : ℕ) (r : LineNumbers) → w ≡ spaces l + 1 → from ≤ w → w - from ≡ count → 8 < count
-    → r ≡ wrong_numbers → r ≡ numbers_of l from count
+pub too_many : (l : List ℕ) (from count w : ℕ) → w ≡ spaces l + 1 → from ≤ w → w - from ≡ count → 8 < count
+    → None ≡ numbers_of l from count
 unfolding numbers_of
-too_many l from count w r e g n h k =
-    pick_no _ _ _ _ (both_second _ _ (eq-eqb (spaces l + 1) (from + count) (omega (arith, e, g, n))) (lt-leb count 8 h)) k
+too_many l from count w e g n h =
+    pick_no _ _ _ _ (both_second _ _ (eq-eqb (spaces l + 1) (from + count) (omega (arith, e, g, n))) (lt-leb count 8 h)) refl
 
 pub numbers_start : (l : List ℕ) (from count w : ℕ) → w ≡ spaces l + 1 → from ≤ w → w - from ≡ count → count ≤ 8
     → numbers_from (count - 0) l (from + 0) 0 (replicate 8 0) ≡ numbers_of l from count
@@ -51,24 +48,21 @@ numbers_start l from count w e g n h =
 one_more : (count i : ℕ) → i < count → count - i ≡ suc (count - (i + 1))
 one_more count i h = omega (arith, h)
 
-pub numbers_more : (l : List ℕ) (from count i x : ℕ) (at : List ℕ) (f : NumberFound) (r : LineNumbers) → i < count
-    → f ≡ number_at l (from + i) → f ≡ found.Number x → numbers_from (count - i) l (from + i) i at ≡ r
+pub numbers_more : (l : List ℕ) (from count i x : ℕ) (at : List ℕ) (r : Option (List ℕ)) → i < count
+    → number_at l (from + i) ≡ Some x → numbers_from (count - i) l (from + i) i at ≡ r
     → numbers_from (count - (i + 1)) l (from + (i + 1)) (i + 1) (set at i x) ≡ r
 unfolding numbers_from
-numbers_more l from count i x at f r h p q e =
-    let m : number_at l (from + i) ≡ found.Number x = sym p ∙ q in
+numbers_more l from count i x at r h m e =
     let b : from + (i + 1) ≡ from + i + 1 = omega arith in
     rw b (rw (one_more count i h, m) at e)
 
-pub numbers_wrong : (l : List ℕ) (from count i : ℕ) (at : List ℕ) (f : NumberFound) (r s : LineNumbers) → i < count
-    → f ≡ number_at l (from + i) → f ≡ found.Wrong → s ≡ wrong_numbers → numbers_from (count - i) l (from + i) i at ≡ r → s ≡ r
+pub numbers_none : (l : List ℕ) (from count i : ℕ) (at : List ℕ) (r : Option (List ℕ)) → i < count
+    → number_at l (from + i) ≡ None → numbers_from (count - i) l (from + i) i at ≡ r → None ≡ r
 unfolding numbers_from
-numbers_wrong l from count i at f r s h p q w e =
-    let m : number_at l (from + i) ≡ found.Wrong = sym p ∙ q in
-    w ∙ (rw (one_more count i h, m) at e)
+numbers_none l from count i at r h m e = rw (one_more count i h, m) at e
 
-pub numbers_end : (l : List ℕ) (from count i : ℕ) (at : List ℕ) (r : LineNumbers) → count ≤ i
-    → numbers_from (count - i) l (from + i) i at ≡ r → record { good = true; at = at } ≡ r
+pub numbers_end : (l : List ℕ) (from count i : ℕ) (at : List ℕ) (r : Option (List ℕ)) → count ≤ i
+    → numbers_from (count - i) l (from + i) i at ≡ r → Some at ≡ r
 unfolding numbers_from
 numbers_end l from count i at r h e =
     let z : count - i ≡ 0 = omega (arith, h) in

@@ -2,49 +2,49 @@
 #![tactic(auto)]
 
 ghost use Rattle.std.specs.Prelude.{◌≡◌};
-ghost use Rattle.script_lines.specs.Lines.{wrong_numbers, numbers_of};
+ghost use Rattle.script_lines.specs.Lines.{numbers_of};
+ghost use Rattle.script_lines.specs.declared.LineError.TheVariants.{Io};
 
-use script_numbers::NumberFound;
+use std::io;
 
-// Up to eight numbers; `good` if all that were asked for are there and nothing else is.
-#[derive(Drop)]
-pub struct LineNumbers {
-    pub good: bool,
-    pub at: [u32; 8],
+// Why a line was not run.
+#[derive(Clone, Copy)]
+pub enum LineError {
+    // It is none of the format.
+    Format,
+    // Its answer could not be written.
+    Io(io::Error),
 }
 
-fn wrong() -> LineNumbers
-    ensures { result ≡ wrong_numbers }
-{
-    LineNumbers {
-        good: false,
-        at: [0; 8],
+impl From<io::Error> for LineError {
+    ghost from_gives = { λ error made. made ≡ Io error };
+
+    fn from(error: io::Error) -> LineError {
+        LineError::Io(error)
     }
 }
 
-// Reads the words from `from` on as numbers, `count` of them, eight at most.
-pub fn numbers(line: &[u8], from: usize, count: usize) -> LineNumbers
+pub type LineResult<T> = Result<T, LineError>;
+
+// Reads the words from `from` on as numbers, if there are `count` of them, eight at most, and each is
+// one; behind them there are zeros.
+pub fn numbers(line: &[u8], from: usize, count: usize) -> Option<[u32; 8]>
     ensures { result ≡ numbers_of line.now from count }
 {
     let words = script_words::words(line);
     if words < from {
-        return wrong();
+        return None;
     }
     if words - from != count {
-        return wrong();
+        return None;
     }
     if 8 < count {
-        return wrong();
+        return None;
     }
-    let mut at = [0u32; 8];
-    let mut i = 0;
-    while i < count {
+    let mut numbers = [0; 8];
+    for i in 0..count {
         let word = script_words::word(line, from + i);
-        match script_numbers::number(word, 0xffffffff) {
-            NumberFound::Number(n) => at[i] = n,
-            NumberFound::Wrong => return wrong(),
-        }
-        i += 1;
+        numbers[i] = script_numbers::number(word, 0xffffffff)?;
     }
-    LineNumbers { good: true, at: at }
+    Some(numbers)
 }

@@ -19,22 +19,6 @@ pub fn ok(rt: &impl Print, answers: bool) -> io::Result<()> {
     Ok(())
 }
 
-pub fn decimal(rt: &impl Print, n: u64) -> io::Result<()> {
-    rt.print(n)
-}
-
-// Hexadecimal after `0x`, with no zeros in front.
-pub fn hexadecimal(rt: &impl Print, n: u64) -> io::Result<()> {
-    text(rt, b"0x")?;
-    print!(rt; "{:x}", n)
-}
-
-// A space, and a decimal number.
-pub fn more(rt: &impl Print, n: u64) -> io::Result<()> {
-    text(rt, b" ")?;
-    decimal(rt, n)
-}
-
 // At most 256 bytes as pairs of digits.
 fn some_bytes(rt: &impl Print, bytes: &[u8]) -> io::Result<()> {
     let mut pairs = [0u8; 512];
@@ -45,17 +29,11 @@ fn some_bytes(rt: &impl Print, bytes: &[u8]) -> io::Result<()> {
 
 // Bytes as a script has them: `-` for none.
 pub fn bytes(rt: &impl Print, bytes: &[u8]) -> io::Result<()> {
-    if bytes.len() == 0 {
-        text(rt, b"-")?;
+    if bytes.is_empty() {
+        return text(rt, b"-");
     }
-    let mut i = 0;
-    while i < bytes.len() {
-        if bytes.len() - i <= 256 {
-            return some_bytes(rt, &bytes[i..]);
-        }
-        let next = i + 256;
-        some_bytes(rt, &bytes[i..next])?;
-        i = next;
+    for part in bytes.chunks(256) {
+        some_bytes(rt, part)?;
     }
     Ok(())
 }

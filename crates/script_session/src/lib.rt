@@ -1,14 +1,11 @@
 // What a run of a script keeps from one line to the next.
 #![tactic(auto)]
 
-use call_causes::Cause;
 use possible::Hca;
-use script_device::SlotFound;
-use script_memory::{Lending, Lent};
-use script_numbers::NumberFound;
-use script_states::StateFound;
+use rules::Refusal;
+use script_lines::{LineError, LineResult};
+use script_memory::{Device, Lent};
 use slots::Slot;
-use std::io;
 
 #[derive(Clone, Copy)]
 pub struct Session {
@@ -16,127 +13,77 @@ pub struct Session {
     pub row: [Slot; 9],
     pub lent: Lent,
     // The last call's refusal.
-    pub why: Cause,
-    // Whether the last line was one of the format.
-    pub good: bool,
+    pub why: Option<Refusal>,
     // How many lines there were.
     pub lines: u64,
     // Whether each line's answer is printed.
     pub answers: bool,
-    // The part of the input's buffer that was read and not yet run.
-    pub from: usize,
-    pub to: usize,
 }
 
-// After a call, or before the first.
-pub fn after_call(
-    hca: Hca,
-    row: [Slot; 9],
-    lent: Lent,
-    why: Cause,
-    lines: u64,
-    answers: bool,
-) -> Session {
+// A fresh device, all of whose slots are free, before the first line. The store and the room stand beside
+// the session: a call is lent both at once, which the borrow checker does not follow through one struct.
+pub fn begin(lent: Lent, answers: bool) -> Session {
     Session {
-        hca: hca,
-        row: row,
-        lent: lent,
-        why: why,
-        good: true,
-        lines: lines,
-        answers: answers,
-        from: 0,
-        to: 0,
+        hca: start::closed_state(),
+        row: start::nine_free(),
+        lent,
+        why: None,
+        lines: 0,
+        answers,
     }
 }
 
-// A fresh device, all of whose slots are free.
-pub fn begin(lent: Lent, lines: u64, answers: bool) -> Session {
-    after_call(
-        start::closed_state(),
-        start::nine_free(),
-        lent,
-        Cause::None,
-        lines,
-        answers,
-    )
-}
-
-// The same after a line, with whether that was one of the format.
-pub fn after(session: Session, good: bool) -> Session {
-    let mut next = session;
-    next.good = good;
-    next
+// What a call leaves.
+pub fn after_call(session: &mut Session, hca: Hca, row: [Slot; 9], why: Option<Refusal>) {
+    session.hca = hca;
+    session.row = row;
+    session.why = why;
 }
 
 // What a line on memory leaves.
-pub fn relend(session: Session, lending: Lending) -> Session {
-    let lent = lending.lent;
-    if lending.anew {
-        return begin(lent, session.lines, session.answers);
+pub fn relend(session: &mut Session, device: Device) {
+    match device {
+        Device::Same => {}
+        Device::Fresh => after_call(session, start::closed_state(), start::nine_free(), None),
     }
-    let mut next = session;
-    next.lent = lent;
-    next.good = lending.good;
-    next
 }
 
 // `state OPEN LQ LC LE LM LEN`.
-pub fn state(rt: &impl Print, session: Session, line: &[u8]) -> io::Result<Session> {
-    let StateFound::State(hca) = script_states::read_state(line) else {
-        return Ok(after(session, false));
-    };
+pub fn state(rt: &impl Print, session: &mut Session, line: &[u8]) -> LineResult<()> {
+    session.hca = script_states::read_state(line).ok_or(LineError::Format)?;
     script_print::ok(rt, session.answers)?;
-    let mut next = session;
-    next.hca = hca;
-    Ok(next)
-}
-
-// The same with another slot k.
-fn with_slot(session: Session, k: usize, slot: Slot) -> Session {
-    let mut row = session.row;
-    if k < 9 {
-        row[k] = slot;
-    }
-    let mut next = session;
-    next.row = row;
-    next
+    Ok(())
 }
 
 // `slot K ..`.
-pub fn slot(rt: &impl Print, session: Session, line: &[u8]) -> io::Result<Session> {
-    let NumberFound::Number(k) = script_device::slot_number(line) else {
-        return Ok(after(session, false));
-    };
-    let SlotFound::Slot(slot) = script_device::read_slot(line) else {
-        return Ok(after(session, false));
-    };
+pub fn slot(rt: &impl Print, session: &mut Session, line: &[u8]) -> LineResult<()> {
+    let k = script_device::slot_number(line).ok_or(LineError::Format)? as usize;
+    let slot = script_device::read_slot(line).ok_or(LineError::Format)?;
+    if k < 9 {
+        session.row[k] = slot;
+    }
     script_print::ok(rt, session.answers)?;
-    Ok(with_slot(session, k as usize, slot))
+    Ok(())
 }
 
 // `show`.
-pub fn show(rt: &impl Print, session: Session, line: &[u8]) -> io::Result<Session> {
+pub fn show(rt: &impl Print, session: &Session, line: &[u8]) -> LineResult<()> {
     if script_words::words(line) != 1 {
-        return Ok(after(session, false));
+        return Err(LineError::Format);
     }
-    let lent = session.lent;
-    let hca = session.hca;
-    let row = session.row;
     if session.answers {
-        script_show::show(rt, hca, row, lent.row)?;
+        script_show::show(rt, session.hca, session.row, session.lent.row)?;
     }
-    Ok(session)
+    Ok(())
 }
 
 // `why`.
-pub fn why(rt: &impl Print, session: Session, line: &[u8]) -> io::Result<Session> {
+pub fn why(rt: &impl Print, session: &Session, line: &[u8]) -> LineResult<()> {
     if script_words::words(line) != 1 {
-        return Ok(after(session, false));
+        return Err(LineError::Format);
     }
-    let cause = session.why;
     if session.answers {
-        script_causes::print_cause(rt, cause)?;
+        script_causes::print_cause(rt, session.why)?;
     }
-    Ok(session)
+    Ok(())
 }

@@ -3,72 +3,35 @@
 
 ghost use Rattle.std.specs.Prelude.{◌≡◌};
 ghost use Rattle.script_lines.specs.Lines.{numbers_of};
-ghost use Rattle.script_states.specs.States.{logs_of, with_logs, state_in};
+ghost use Rattle.script_states.specs.States.{logs_of, state_in};
 
 use context::Logs;
 use possible::Hca;
 
-#[derive(Drop)]
-pub enum StateFound {
-    State(Hca),
-    Wrong,
-}
-
-#[derive(Drop)]
-enum LogsFound {
-    Logs(Logs),
-    Wrong,
-}
-
 // The logarithms of a `state` line, if each is a byte.
-fn logs_of(qps: u32, cqs: u32, eqs: u32, mpts: u32) -> LogsFound
+fn logs_of(qps: u32, cqs: u32, eqs: u32, mpts: u32) -> Option<Logs>
     ensures { result ≡ logs_of qps cqs eqs mpts }
 {
-    if 255 < qps {
-        return LogsFound::Wrong;
-    }
-    if 255 < cqs {
-        return LogsFound::Wrong;
-    }
-    if 255 < eqs {
-        return LogsFound::Wrong;
-    }
-    if 255 < mpts {
-        return LogsFound::Wrong;
-    }
-    LogsFound::Logs(Logs {
-        qps: qps as u8,
-        cqs: cqs as u8,
-        eqs: eqs as u8,
-        mpts: mpts as u8,
+    Some(Logs {
+        qps: u8::try_from(qps).ok()?,
+        cqs: u8::try_from(cqs).ok()?,
+        eqs: u8::try_from(eqs).ok()?,
+        mpts: u8::try_from(mpts).ok()?,
     })
 }
 
-fn with_logs(found: LogsFound, open: u32, store_len: u32) -> StateFound
-    ensures { result ≡ with_logs found «open» store_len }
-{
-    match found {
-        LogsFound::Logs(logs) => StateFound::State(Hca {
-            open: open == 1,
-            logs: logs,
-            store_len: store_len as usize,
-        }),
-        LogsFound::Wrong => StateFound::Wrong,
-    }
-}
-
 // `state OPEN LQ LC LE LM LEN`.
-pub fn read_state(line: &[u8]) -> StateFound
+pub fn read_state(line: &[u8]) -> Option<Hca>
     ensures { result ≡ state_in (numbers_of line.now 1 6) }
 {
-    let read = script_lines::numbers(line, 1, 6);
-    if !read.good {
-        return StateFound::Wrong;
+    let read = script_lines::numbers(line, 1, 6)?;
+    if 1 < read[0] {
+        return None;
     }
-    let open = read.at[0];
-    if 1 < open {
-        return StateFound::Wrong;
-    }
-    let logs = logs_of(read.at[1], read.at[2], read.at[3], read.at[4]);
-    with_logs(logs, open, read.at[5])
+    let logs = logs_of(read[1], read[2], read[3], read[4])?;
+    Some(Hca {
+        open: read[0] == 1,
+        logs,
+        store_len: read[5] as usize,
+    })
 }

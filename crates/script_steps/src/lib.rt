@@ -1,175 +1,121 @@
 // A script's steps, collections and resets.
 #![tactic(auto)]
 
-use rules::{CollectAnswer, ResetAnswer, StepAnswer};
+use rules::Refusal;
 use script_bytes::front;
-use script_print::{end, hexadecimal, more, text};
-use script_session::{Session, after, after_call};
+use script_lines::{LineError, LineResult};
+use script_session::{Session, after_call};
 use std::io;
 
 // The bytes that a collection's buffer has before.
 const UNTOUCHED: u8 = 0xee;
 
-fn print_step(rt: &impl Print, answer: StepAnswer, answers: bool) -> io::Result<()> {
-    if !answers {
-        return Ok(());
-    }
-    hexadecimal(rt, numbers_returned::step_number(answer) as u64)?;
+fn print_step(rt: &impl Print, answer: Result<u8, Refusal>) -> io::Result<()> {
+    let number = numbers_returned::number(answer);
     match answer {
-        StepAnswer::Left(n) => {
-            text(rt, b" left")?;
-            more(rt, n as u64)?;
-            end(rt)
-        }
-        StepAnswer::Refused(_) => end(rt),
+        Ok(left) => println!(rt; "{number:#x} left {left}"),
+        Err(_) => println!(rt; "{number:#x}"),
     }
 }
 
-fn print_collect(
-    rt: &impl Print,
-    answer: CollectAnswer,
-    buffer: &[u8],
-    answers: bool,
-) -> io::Result<()> {
-    if !answers {
-        return Ok(());
-    }
-    hexadecimal(rt, numbers_returned::collect_number(answer) as u64)?;
+fn print_collect(rt: &impl Print, answer: Result<usize, Refusal>, buffer: &[u8]) -> io::Result<()> {
+    let number = numbers_returned::number(answer);
     match answer {
-        CollectAnswer::Collected(n) => more(rt, n as u64)?,
-        CollectAnswer::Refused(_) => {}
+        Ok(length) => print!(rt; "{number:#x} {length} ")?,
+        Err(_) => print!(rt; "{number:#x} ")?,
     }
-    text(rt, b" ")?;
     script_print::bytes(rt, buffer)?;
-    end(rt)
-}
-
-fn print_reset(rt: &impl Print, answer: ResetAnswer, answers: bool) -> io::Result<()> {
-    if !answers {
-        return Ok(());
-    }
-    hexadecimal(rt, numbers_returned::reset_number(answer) as u64)?;
-    end(rt)
+    script_print::end(rt)
 }
 
 // `step K`.
 pub fn step(
     rt: &impl Print,
-    session: Session,
+    session: &mut Session,
     line: &[u8],
     store: &mut [u8],
     room: &mut [u8],
-) -> io::Result<Session> {
-    let read = script_lines::numbers(line, 1, 1);
-    let k = read.at[0] as usize;
-    if !read.good {
-        return Ok(after(session, false));
-    }
+) -> LineResult<()> {
+    let read = script_lines::numbers(line, 1, 1).ok_or(LineError::Format)?;
     let lent = session.lent;
-    let hca = session.hca;
-    let row = session.row;
     let n = front(lent.store, store);
     let m = front(lent.room, room);
-    let done = adapter_fronts::step_front(hca, row, lent.row, &mut store[..n], &mut room[..m], k);
-    let answer = done.answer;
-    print_step(rt, answer, session.answers)?;
-    let row = done.row;
-    Ok(after_call(
-        hca,
-        row,
-        lent,
-        call_causes::of_step(answer),
-        session.lines,
-        session.answers,
-    ))
-}
-
-// Collects slot k into a buffer.
-fn collect_into(
-    rt: &impl Print,
-    session: Session,
-    k: usize,
-    buffer: &mut [u8],
-    store: &[u8],
-    room: &[u8],
-) -> io::Result<Session> {
-    let lent = session.lent;
-    let hca = session.hca;
-    let row = session.row;
-    let n = front(lent.store, store);
-    let m = front(lent.room, room);
-    let done = adapter_fronts::collect_front(
-        hca,
-        row,
+    let done = adapter_fronts::step_front(
+        session.hca,
+        session.row,
         lent.row,
-        &store[..n],
-        &room[..m],
-        k,
-        buffer,
+        &mut store[..n],
+        &mut room[..m],
+        read[0] as usize,
     );
-    let answer = done.answer;
-    print_collect(rt, answer, buffer, session.answers)?;
-    let row = done.row;
-    Ok(after_call(
-        hca,
-        row,
-        lent,
-        call_causes::of_collect(answer),
-        session.lines,
-        session.answers,
-    ))
+    if session.answers {
+        print_step(rt, done.answer)?;
+    }
+    let why = call_causes::of_answer(done.answer);
+    after_call(session, session.hca, done.row, why);
+    Ok(())
 }
 
 // `collect K LEN`.
 pub fn collect(
     rt: &impl Print,
-    session: Session,
+    session: &mut Session,
     line: &[u8],
     store: &[u8],
     room: &[u8],
-) -> io::Result<Session> {
-    let read = script_lines::numbers(line, 1, 2);
-    let k = read.at[0] as usize;
-    let length = read.at[1] as usize;
-    if !read.good {
-        return Ok(after(session, false));
-    }
-    if 512 < length {
-        return Ok(after(session, false));
-    }
+) -> LineResult<()> {
+    let read = script_lines::numbers(line, 1, 2).ok_or(LineError::Format)?;
     let mut buffer = [UNTOUCHED; 512];
-    let n = front(length, &buffer);
-    collect_into(rt, session, k, &mut buffer[..n], store, room)
+    let Some(out) = buffer.get_mut(..read[1] as usize) else {
+        return Err(LineError::Format);
+    };
+    let lent = session.lent;
+    let n = front(lent.store, store);
+    let m = front(lent.room, room);
+    let done = adapter_fronts::collect_front(
+        session.hca,
+        session.row,
+        lent.row,
+        &store[..n],
+        &room[..m],
+        read[0] as usize,
+        out,
+    );
+    if session.answers {
+        print_collect(rt, done.answer, out)?;
+    }
+    let why = call_causes::of_answer(done.answer);
+    after_call(session, session.hca, done.row, why);
+    Ok(())
 }
 
 // `reset`.
 pub fn reset(
     rt: &impl Print,
-    session: Session,
+    session: &mut Session,
     line: &[u8],
     store: &[u8],
     room: &[u8],
-) -> io::Result<Session> {
+) -> LineResult<()> {
     if script_words::words(line) != 1 {
-        return Ok(after(session, false));
+        return Err(LineError::Format);
     }
     let lent = session.lent;
-    let hca = session.hca;
-    let row = session.row;
     let n = front(lent.store, store);
     let m = front(lent.room, room);
-    let done = adapter_fronts::reset_front(hca, row, lent.row, &store[..n], &room[..m]);
-    let reply = done.reply;
-    let answer = reply.answer;
-    print_reset(rt, answer, session.answers)?;
-    let row = done.row;
-    let hca = reply.hca;
-    Ok(after_call(
-        hca,
-        row,
-        lent,
-        call_causes::of_reset(answer),
-        session.lines,
-        session.answers,
-    ))
+    let done = adapter_fronts::reset_front(
+        session.hca,
+        session.row,
+        lent.row,
+        &store[..n],
+        &room[..m],
+    );
+    let reply = done.answer;
+    if session.answers {
+        let number = numbers_returned::number(reply.answer);
+        println!(rt; "{number:#x}")?;
+    }
+    let why = call_causes::of_answer(reply.answer);
+    after_call(session, reply.hca, done.row, why);
+    Ok(())
 }

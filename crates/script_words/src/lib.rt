@@ -11,23 +11,14 @@ const SPACE: u8 = 0x20;
 fn space(character: u8) -> usize
     ensures { (result ≡ one character) × (result ≤ 1) }
 {
-    if character == SPACE {
-        return 1;
-    }
-    0
+    usize::from(character == SPACE)
 }
 
 // How many words a line has.
 pub fn words(line: &[u8]) -> usize
     ensures { result ≡ spaces line.now + 1 }
 {
-    let mut n = 0;
-    let mut i = 0;
-    while i < line.len() {
-        n += space(line[i]);
-        i += 1;
-    }
-    n + 1
+    line.iter().filter(|character| **character == SPACE).count() + 1
 }
 
 // Where word k starts, or the line's end where it has no such word.
@@ -35,15 +26,22 @@ fn word_start(line: &[u8], k: usize) -> usize
     ensures { (result ≤ length line.now) × (drop result line.now ≡ behind line.now k) }
 {
     let mut left = k;
-    let mut i = 0;
-    while i < line.len() {
+    for (i, character) in line.iter().enumerate() {
         if left == 0 {
             return i;
         }
-        left -= space(line[i]);
-        i += 1;
+        left -= space(*character);
     }
     line.len()
+}
+
+// How long the first word of a text is.
+fn first_length(text: &[u8]) -> usize
+    ensures { (result ≤ length text.now) × (result ≡ first_length text.now) }
+{
+    text.iter()
+        .position(|character| *character == SPACE)
+        .unwrap_or(text.len())
 }
 
 // Where the word that starts at `from` ends.
@@ -51,14 +49,7 @@ fn word_end(line: &[u8], from: usize) -> usize
     requires { from ≤ length line.now }
     ensures { (result ≤ length line.now) × (result ≡ from + first_length (drop from line.now)) }
 {
-    let mut i = from;
-    while i < line.len() {
-        if line[i] == SPACE {
-            return i;
-        }
-        i += 1;
-    }
-    i
+    from + first_length(&line[from..])
 }
 
 // Word k of a line, counted from 0; no bytes where the line has no such word.
@@ -74,15 +65,5 @@ pub fn word(line: &[u8], k: usize) -> &[u8]
 pub fn same(a: &[u8], b: &[u8]) -> bool
     ensures { result ≡ same_word a.now b.now }
 {
-    if a.len() != b.len() {
-        return false;
-    }
-    let mut i = 0;
-    while i < a.len() {
-        if a[i] != b[i] {
-            return false;
-        }
-        i += 1;
-    }
-    true
+    a == b
 }

@@ -6,36 +6,19 @@ ghost use Rattle.std.specs.Prelude.{◌≡◌, true, false, ◌+◌, ◌*◌, �
 ghost use Rattle.words.specs.Words.{le32};
 ghost use Rattle.slot_requests.specs.Requests.{with_op};
 ghost use Rattle.hold_codes.specs.Codes.{one_hold, three_hold};
-ghost use Rattle.slot_judging.specs.Judging.{bad, judged_by, record_judged, table_judged, op_judged, joined_judged, write_judged};
+ghost use Rattle.slot_judging.specs.Judging.{judged_by, record_judged, table_judged, op_judged, joined_judged, write_judged};
 ghost use Rattle.slot_judging.specs.Judging.{number_judged, queue_pair_judged, engine_in, judged_request, judged_of};
 
-use commands::{Op, OpFound, Table};
+use commands::{Op, Table};
 use context::Logs;
-use engines::{EngineNumber, NumberFound};
+use engines::EngineNumber;
 use hold_codes::Hold;
 
-// Whether a slot is wrong; and if it is not, whether it has a command, and what it holds.
+// Of a slot that is not wrong: whether it has a command, and what it holds.
 #[derive(Drop)]
 pub struct Judged {
-    pub wrong: bool,
     pub command: bool,
     pub hold: Hold,
-}
-
-fn wrong() -> Judged
-    ensures { result ≡ bad }
-{
-    Judged {
-        wrong: true,
-        command: false,
-        hold: hold_codes::nothing(),
-    }
-}
-
-fn wide(n: u32) -> u64
-    ensures { result ≡ n }
-{
-    n as u64
 }
 
 // The code of a record.
@@ -43,33 +26,34 @@ fn coded(n: u32, kind: u64) -> u64
     requires { kind ≤ 4 }
     ensures { result ≡ n * 4 + kind }
 {
-    wide(n) * 4 + kind
+    u64::from(n) * 4 + kind
 }
 
-fn running(moved: u8, total: u8, command: bool, hold: Hold) -> Judged
+fn running(moved: u8, total: u8, command: bool, hold: Hold) -> Option<Judged>
     ensures { result ≡ judged_by 1 moved total command hold }
 {
-    Judged {
-        wrong: !(moved < total),
-        command: command,
-        hold: hold,
+    if moved >= total {
+        return None;
     }
+    Some(Judged { command, hold })
 }
 
 // The last burst ends a hold.
-fn finished(moved: u8, total: u8, command: bool, hold: Hold) -> Judged
+fn finished(moved: u8, total: u8, command: bool, hold: Hold) -> Option<Judged>
     ensures { result ≡ judged_by 2 moved total command hold }
 {
-    let none = hold_codes::nothing();
-    Judged {
-        wrong: moved != total,
-        command: command,
-        hold: none,
+    if moved != total {
+        return None;
     }
+    let none = hold_codes::nothing();
+    Some(Judged {
+        command,
+        hold: none,
+    })
 }
 
 // A request whose numbers are right, by its status and its bursts.
-fn by_status(code: u8, moved: u8, total: u8, command: bool, hold: Hold) -> Judged
+fn by_status(code: u8, moved: u8, total: u8, command: bool, hold: Hold) -> Option<Judged>
     ensures { result ≡ judged_by code moved total command hold }
 {
     if code == 1 {
@@ -78,7 +62,7 @@ fn by_status(code: u8, moved: u8, total: u8, command: bool, hold: Hold) -> Judge
     if code == 2 {
         return finished(moved, total, command, hold);
     }
-    wrong()
+    None
 }
 
 fn one(code: u64, writes: bool) -> Hold
@@ -111,20 +95,27 @@ fn on_record(
     code: u8,
     moved: u8,
     writes: bool,
-) -> Judged
+) -> Option<Judged>
     requires { kind ≤ 4 }
     ensures { result ≡ record_judged log kind total modifier wanted index code moved writes }
 {
     if modifier != wanted {
-        return wrong();
+        return None;
     }
     if !record_kinds::below_count(log, index) {
-        return wrong();
+        return None;
     }
     by_status(code, moved, total, true, one(coded(index, kind), writes))
 }
 
-fn on_table(logs: Logs, table: Table, modifier: u8, index: u32, code: u8, moved: u8) -> Judged
+fn on_table(
+    logs: Logs,
+    table: Table,
+    modifier: u8,
+    index: u32,
+    code: u8,
+    moved: u8,
+) -> Option<Judged>
     ensures { result ≡ table_judged logs table modifier index code moved }
 {
     match table {
@@ -135,13 +126,11 @@ fn on_table(logs: Logs, table: Table, modifier: u8, index: u32, code: u8, moved:
 }
 
 // The three commands that are done at once take no slot.
-fn on_op(logs: Logs, op: Op, modifier: u8, index: u32, code: u8, moved: u8) -> Judged
+fn on_op(logs: Logs, op: Op, modifier: u8, index: u32, code: u8, moved: u8) -> Option<Judged>
     ensures { result ≡ op_judged logs op modifier index code moved }
 {
     match op {
-        Op::InitHca => wrong(),
-        Op::CloseHca => wrong(),
-        Op::Nop => wrong(),
+        Op::InitHca | Op::CloseHca | Op::Nop => None,
         Op::Sw2Hw(table) => on_table(logs, table, modifier, index, code, moved),
         Op::Hw2Sw(table) => on_table(logs, table, modifier, index, code, moved),
         Op::ResizeCq => on_record(logs.cqs, 2, 4, modifier, 0, index, code, moved, true),
@@ -160,13 +149,17 @@ fn on_op(logs: Logs, op: Op, modifier: u8, index: u32, code: u8, moved: u8) -> J
     }
 }
 
-fn command(logs: Logs, found: OpFound, modifier: u8, index: u32, code: u8, moved: u8) -> Judged
+fn command(
+    logs: Logs,
+    found: Option<Op>,
+    modifier: u8,
+    index: u32,
+    code: u8,
+    moved: u8,
+) -> Option<Judged>
     ensures { result ≡ judged_request logs code moved (with_op found modifier index) }
 {
-    match found {
-        OpFound::Served(op) => on_op(logs, op, modifier, index, code, moved),
-        OpFound::NotServed => wrong(),
-    }
+    on_op(logs, found?, modifier, index, code, moved)
 }
 
 // The codes of a joined read's three records (02, wish 2).
@@ -181,35 +174,42 @@ fn three(n: u32, cq: u32, eq: u32) -> Hold
     }
 }
 
-fn joined(logs: Logs, n: u32, s: &[u8], code: u8, moved: u8) -> Judged
+fn joined(logs: Logs, n: u32, s: &[u8], code: u8, moved: u8) -> Option<Judged>
     requires { length s.now ≡ 32 }
     ensures { result ≡ joined_judged logs n (le32 12 s.now) (le32 16 s.now) code moved }
 {
     let cq = words::read_le32(s, 12);
     let eq = words::read_le32(s, 16);
     if !record_kinds::below_count(logs.cqs, cq) {
-        return wrong();
+        return None;
     }
     if !record_kinds::below_count(logs.eqs, eq) {
-        return wrong();
+        return None;
     }
     by_status(code, moved, 24, false, three(n, cq, eq))
 }
 
-fn write(n: u32, s: &[u8], code: u8, moved: u8) -> Judged
+fn write(n: u32, s: &[u8], code: u8, moved: u8) -> Option<Judged>
     requires { length s.now ≡ 32 }
     ensures { result ≡ write_judged n (le32 20 s.now) (get_or s.now 24 0) code moved }
 {
     if !requests::psn_fits(words::read_le32(s, 20)) {
-        return wrong();
+        return None;
     }
     if 6 < s[24] {
-        return wrong();
+        return None;
     }
     by_status(code, moved, 2, false, one(coded(n, 1), true))
 }
 
-fn on_number(logs: Logs, number: EngineNumber, n: u32, s: &[u8], code: u8, moved: u8) -> Judged
+fn on_number(
+    logs: Logs,
+    number: EngineNumber,
+    n: u32,
+    s: &[u8],
+    code: u8,
+    moved: u8,
+) -> Option<Judged>
     requires { length s.now ≡ 32 }
     ensures { result ≡ number_judged logs number n s.now code moved }
 {
@@ -222,53 +222,46 @@ fn on_number(logs: Logs, number: EngineNumber, n: u32, s: &[u8], code: u8, moved
     }
 }
 
-fn on_queue_pair(logs: Logs, number: EngineNumber, n: u32, s: &[u8], code: u8, moved: u8) -> Judged
+fn on_queue_pair(
+    logs: Logs,
+    number: EngineNumber,
+    n: u32,
+    s: &[u8],
+    code: u8,
+    moved: u8,
+) -> Option<Judged>
     requires { length s.now ≡ 32 }
     ensures { result ≡ queue_pair_judged logs number n s.now code moved }
 {
     if !record_kinds::below_count(logs.qps, n) {
-        return wrong();
+        return None;
     }
     on_number(logs, number, n, s, code, moved)
 }
 
-fn engine(logs: Logs, found: NumberFound, n: u32, s: &[u8], code: u8, moved: u8) -> Judged
+fn engine(
+    logs: Logs,
+    found: Option<EngineNumber>,
+    n: u32,
+    s: &[u8],
+    code: u8,
+    moved: u8,
+) -> Option<Judged>
     requires { length s.now ≡ 32 }
     ensures { result ≡ judged_request logs code moved (engine_in n s.now found) }
 {
-    match found {
-        NumberFound::Served(number) => on_queue_pair(logs, number, n, s, code, moved),
-        NumberFound::NotServed => wrong(),
-    }
+    on_queue_pair(logs, found?, n, s, code, moved)
 }
 
-fn wide16(x: u8) -> u16
-    ensures { result ≡ x }
-{
-    x as u16
-}
-
-fn wide32(x: u16) -> u32
-    ensures { result ≡ x }
-{
-    x as u32
-}
-
-fn join(b0: u8, b1: u8) -> u16
-    ensures { result ≡ b0 + 256 * b1 }
-{
-    wide16(b0) + 256 * wide16(b1)
-}
-
-// Judges an occupied slot's bytes.
-pub fn judge(logs: Logs, s: &[u8]) -> Judged
+// Judges an occupied slot's bytes: None where the slot is wrong.
+pub fn judge(logs: Logs, s: &[u8]) -> Option<Judged>
     requires { length s.now ≡ 32 }
     ensures { result ≡ judged_of logs s.now }
 {
     let code = s[0];
     let kind = s[1];
     let moved = s[2];
-    let op = join(s[4], s[5]);
+    let op = u16::from_le_bytes([s[4], s[5]]);
     let index = words::read_le32(s, 8);
     if kind == 0 {
         return command(logs, commands::read_op(op), s[3], index, code, moved);
@@ -276,12 +269,12 @@ pub fn judge(logs: Logs, s: &[u8]) -> Judged
     if kind == 1 {
         return engine(
             logs,
-            engines::read_number(wide32(op)),
+            engines::read_number(u32::from(op)),
             index,
             s,
             code,
             moved,
         );
     }
-    wrong()
+    None
 }

@@ -2,42 +2,24 @@
 // give a slot that no state has, so that the rules' own test refuses them.
 #![tactic(auto)]
 
-ghost use Rattle.std.specs.Prelude.{◌≡◌, ◌+◌, ◌*◌, ◌<◌, length};
-ghost use Rattle.slot_requests.specs.Requests.{any_index};
+ghost use Rattle.std.specs.Prelude.{◌≡◌, ◌<◌, length};
 ghost use Rattle.device_bytes.specs.Decoding.{engine_held, number_held, request_in, broken, status_held, status_of, slot_at};
 ghost use Rattle.slot_readers.specs.Reading.{held_as};
 
-use context::{CqNumber, EqNumber, Logs, QpNumber};
-use engines::{EngineFound, NumberFound};
+use context::{CqNumber, EqNumber, QpNumber};
+use engines::{EngineAsked, EngineNumber};
 use requests::{EngineRequest, Request};
-use slot_requests::RequestFound;
 use slots::{Slot, Status};
 
-// Counts so great that every index is below them.
-fn any_index() -> Logs
-    ensures { result ≡ any_index }
-{
-    Logs {
-        qps: 32,
-        cqs: 32,
-        eqs: 32,
-        mpts: 32,
-    }
-}
-
-fn engine_held(cq: u32, eq: u32, found: EngineFound) -> RequestFound
+fn engine_held(cq: u32, eq: u32, found: Option<EngineAsked>) -> Option<Request>
     ensures { result ≡ engine_held cq eq found }
 {
     match found {
-        EngineFound::OnRecord(engine) => RequestFound::Request(Request::Engine(engine)),
-        EngineFound::Joined(n) => {
-            RequestFound::Request(Request::Engine(EngineRequest::ReadJoined(
-                n,
-                CqNumber(cq),
-                EqNumber(eq),
-            )))
+        Some(EngineAsked::OnRecord(engine)) => Some(Request::Engine(engine)),
+        Some(EngineAsked::Joined(n)) => {
+            Some(Request::Engine(EngineRequest::ReadJoined(n, CqNumber(cq), EqNumber(eq))))
         }
-        EngineFound::Wrong => RequestFound::Wrong,
+        None => None,
     }
 }
 
@@ -47,47 +29,28 @@ fn number_held(
     eq: u32,
     psn: u32,
     state: u8,
-    found: NumberFound,
-) -> RequestFound
+    found: Option<EngineNumber>,
+) -> Option<Request>
     ensures { result ≡ number_held index cq eq psn state found }
 {
     match found {
-        NumberFound::Served(number) => {
+        Some(number) => {
             engine_held(
                 cq,
                 eq,
-                engines::read_engine(number, index, psn, state, any_index()),
+                engines::read_engine(number, index, psn, state, slot_requests::any_index()),
             )
         }
-        NumberFound::NotServed => RequestFound::Wrong,
+        None => None,
     }
 }
 
-fn wide16(x: u8) -> u16
-    ensures { result ≡ x }
-{
-    x as u16
-}
-
-fn wide32(x: u16) -> u32
-    ensures { result ≡ x }
-{
-    x as u32
-}
-
-// The number of two bytes, lowest first.
-fn join(b0: u8, b1: u8) -> u16
-    ensures { result ≡ b0 + 256 * b1 }
-{
-    wide16(b0) + 256 * wide16(b1)
-}
-
-fn read_request(s: &[u8]) -> RequestFound
+fn read_request(s: &[u8]) -> Option<Request>
     requires { length s.now ≡ 32 }
     ensures { result ≡ request_in s.now }
 {
     let kind = s[1];
-    let op = join(s[4], s[5]);
+    let op = u16::from_le_bytes([s[4], s[5]]);
     let index = words::read_le32(s, 8);
     if kind == 0 {
         let modifier = s[3];
@@ -98,9 +61,16 @@ fn read_request(s: &[u8]) -> RequestFound
         let eq = words::read_le32(s, 16);
         let psn = words::read_le32(s, 20);
         let state = s[24];
-        return number_held(index, cq, eq, psn, state, engines::read_number(wide32(op)));
+        return number_held(
+            index,
+            cq,
+            eq,
+            psn,
+            state,
+            engines::read_number(u32::from(op)),
+        );
     }
-    RequestFound::Wrong
+    None
 }
 
 // A status that no state has: every request moves a burst.
@@ -122,12 +92,12 @@ fn held(code: u8, moved: u8, request: Request) -> Status
     broken_status()
 }
 
-fn status_held(code: u8, moved: u8, found: RequestFound) -> Status
+fn status_held(code: u8, moved: u8, found: Option<Request>) -> Status
     ensures { result ≡ status_held code moved found }
 {
     match found {
-        RequestFound::Request(request) => held(code, moved, request),
-        RequestFound::Wrong => broken_status(),
+        Some(request) => held(code, moved, request),
+        None => broken_status(),
     }
 }
 

@@ -6,19 +6,13 @@
 ghost use Rattle.std.specs.Prelude.{◌≡◌};
 ghost use Rattle.slot_requests.specs.Requests.{any_index, on_record, with_op, command_in, with_psn, code_of, on_one, joined_on, on_queue_pair, with_number, engine_in};
 
-use commands::{CommandFound, OpFound};
+use commands::{CommandAsked, Op};
 use context::{CqNumber, EqNumber, Logs, QpNumber};
-use engines::{EngineFound, NumberFound};
+use engines::{EngineAsked, EngineNumber};
 use requests::{EngineRequest, Request};
 
-#[derive(Drop)]
-pub enum RequestFound {
-    Request(Request),
-    Wrong,
-}
-
 // Counts so great that every index is below them.
-fn any_index() -> Logs
+pub fn any_index() -> Logs
     ensures { result ≡ any_index }
 {
     Logs {
@@ -29,29 +23,25 @@ fn any_index() -> Logs
     }
 }
 
-fn on_record(found: CommandFound) -> RequestFound
+fn on_record(found: Option<CommandAsked>) -> Option<Request>
     ensures { result ≡ on_record found }
 {
-    match found {
-        CommandFound::InitHca => RequestFound::Wrong,
-        CommandFound::CloseHca => RequestFound::Wrong,
-        CommandFound::Nop => RequestFound::Wrong,
-        CommandFound::OnRecord(command) => RequestFound::Request(Request::Command(command)),
-        CommandFound::Wrong => RequestFound::Wrong,
+    match found? {
+        CommandAsked::InitHca => None,
+        CommandAsked::CloseHca => None,
+        CommandAsked::Nop => None,
+        CommandAsked::OnRecord(command) => Some(Request::Command(command)),
     }
 }
 
-fn with_op(found: OpFound, modifier: u8, index: u32) -> RequestFound
+fn with_op(found: Option<Op>, modifier: u8, index: u32) -> Option<Request>
     ensures { result ≡ with_op found modifier index }
 {
-    match found {
-        OpFound::Served(op) => on_record(commands::read_command(op, modifier, index, any_index())),
-        OpFound::NotServed => RequestFound::Wrong,
-    }
+    on_record(commands::read_command(found?, modifier, index, any_index()))
 }
 
 // A command on a record.
-pub fn read_command(op: u16, modifier: u8, index: u32) -> RequestFound
+pub fn read_command(op: u16, modifier: u8, index: u32) -> Option<Request>
     ensures { result ≡ command_in op modifier index }
 {
     with_op(commands::read_op(op), modifier, index)
@@ -81,51 +71,42 @@ fn code_of(state: u32) -> u8
 }
 
 // A request on one queue pair.
-fn on_one(engine: EngineRequest, psn: u32, state: u32) -> RequestFound
+fn on_one(engine: EngineRequest, psn: u32, state: u32) -> Option<Request>
     ensures { result ≡ on_one engine psn state }
 {
     if 255 < state {
-        return RequestFound::Wrong;
+        return None;
     }
-    RequestFound::Request(Request::Engine(with_psn(engine, psn)))
+    Some(Request::Engine(with_psn(engine, psn)))
 }
 
 // A joined read.
-fn joined(n: QpNumber, cq: u32, eq: u32) -> RequestFound
+fn joined(n: QpNumber, cq: u32, eq: u32) -> Option<Request>
     ensures { result ≡ joined_on n cq eq }
 {
-    RequestFound::Request(Request::Engine(EngineRequest::ReadJoined(n, CqNumber(cq), EqNumber(eq))))
+    Some(Request::Engine(EngineRequest::ReadJoined(n, CqNumber(cq), EqNumber(eq))))
 }
 
 // Where other requests have PSN and state, a joined read has its names.
-fn on_queue_pair(found: EngineFound, psn: u32, state: u32) -> RequestFound
+fn on_queue_pair(found: Option<EngineAsked>, psn: u32, state: u32) -> Option<Request>
     ensures { result ≡ on_queue_pair found psn state }
 {
-    match found {
-        EngineFound::OnRecord(engine) => on_one(engine, psn, state),
-        EngineFound::Joined(n) => joined(n, psn, state),
-        EngineFound::Wrong => RequestFound::Wrong,
+    match found? {
+        EngineAsked::OnRecord(engine) => on_one(engine, psn, state),
+        EngineAsked::Joined(n) => joined(n, psn, state),
     }
 }
 
 // The request is read with the PSN 0, which is never refused.
-fn with_number(found: NumberFound, index: u32, psn: u32, state: u32) -> RequestFound
+fn with_number(found: Option<EngineNumber>, index: u32, psn: u32, state: u32) -> Option<Request>
     ensures { result ≡ with_number found index psn state }
 {
-    match found {
-        NumberFound::Served(number) => {
-            on_queue_pair(
-                engines::read_engine(number, index, 0, code_of(state), any_index()),
-                psn,
-                state,
-            )
-        }
-        NumberFound::NotServed => RequestFound::Wrong,
-    }
+    let asked = engines::read_engine(found?, index, 0, code_of(state), any_index());
+    on_queue_pair(asked, psn, state)
 }
 
 // An engine request.
-pub fn read_engine(number: u32, index: u32, psn: u32, state: u32) -> RequestFound
+pub fn read_engine(number: u32, index: u32, psn: u32, state: u32) -> Option<Request>
     ensures { result ≡ engine_in number index psn state }
 {
     with_number(engines::read_number(number), index, psn, state)

@@ -2,33 +2,13 @@
 #![tactic(auto)]
 
 ghost use Rattle.std.specs.Prelude.{◌≡◌, ◌<◌, length};
-ghost use Rattle.commands.specs.Commands.{edge_modifier};
 ghost use Rattle.request_codes.specs.Numbers.{command_op, engine_number};
 ghost use Rattle.device_bytes.specs.Encoding.{command_modifier, named_cq, named_eq, psn_in, state_in};
 ghost use Rattle.device_bytes.specs.Encoding.{slot_bytes, request_bytes, status_bytes, put_slot};
 ghost use Rattle.slot_writers.specs.Writing.{command_bytes, engine_bytes};
 
-use edges::Edge;
 use requests::{Command, EngineRequest, Request};
 use slots::{Slot, Status};
-
-fn edge_modifier(edge: Edge) -> u8
-    ensures { result ≡ edge_modifier edge }
-{
-    match edge {
-        Edge::ResetToInit => 0,
-        Edge::InitToInit => 0,
-        Edge::InitToRtr => 0,
-        Edge::RtrToRts => 0,
-        Edge::RtsToRts => 0,
-        Edge::SqeToRts => 0,
-        Edge::RtsToSqd => 0,
-        Edge::SqdToSqd => 0,
-        Edge::SqdToRts => 0,
-        Edge::ToErr => 3,
-        Edge::ToReset => 3,
-    }
-}
 
 fn command_modifier(command: Command) -> u8
     ensures { result ≡ command_modifier command }
@@ -38,7 +18,7 @@ fn command_modifier(command: Command) -> u8
         Command::Hw2Sw(_) => 0,
         Command::ResizeCq(_) => 0,
         Command::QueryQp(_) => 0,
-        Command::ModifyQp(edge, _) => edge_modifier(edge),
+        Command::ModifyQp(edge, _) => commands::edge_modifier(edge),
     }
 }
 
@@ -85,7 +65,7 @@ fn state_in(engine: EngineRequest) -> u8
         EngineRequest::ReadState(_) => 0,
         EngineRequest::ReadNext(_) => 0,
         EngineRequest::ReadAll(_) => 0,
-        EngineRequest::Write(_, state, _, _) => edges::state_code(state),
+        EngineRequest::Write(_, state, _, _) => u8::from(state),
         EngineRequest::ReadJoined(_, _, _) => 0,
     }
 }

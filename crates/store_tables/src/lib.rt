@@ -6,7 +6,7 @@ ghost use Rattle.std.specs.Prelude.{◌≡◌, true, ◌^◌, ◌≤◌};
 ghost use Rattle.context.specs.Layout.{start_of, in_use, ranges_hold, fits_store, is_record, record_at};
 ghost use Rattle.context.specs.Init.{init_rows, init_of, init_found_number};
 
-use context::{InitFound, Kind, Logs, Record};
+use context::{InitError, Kind, Logs, Record};
 
 // Whether each logarithm is within its range.
 fn ranges_hold(logs: Logs) -> bool
@@ -76,11 +76,11 @@ pub fn record_at(logs: Logs, rec: Record) -> usize
 }
 
 // The logarithms of INIT_HCA's mailbox.
-pub fn read_init(mailbox: &[u8], store: usize) -> InitFound
+pub fn read_init(mailbox: &[u8], store: usize) -> Result<Logs, InitError>
     ensures { (result ≡ init_of mailbox.now store) × (init_found_number result ≡ init_rows mailbox.now store 0x83 3 0) }
 {
     if mailbox.len() < 64 {
-        return InitFound::ShortMailbox;
+        return Err(InitError::ShortMailbox);
     }
     let logs = Logs {
         qps: mailbox[0x0f],
@@ -89,7 +89,7 @@ pub fn read_init(mailbox: &[u8], store: usize) -> InitFound
         mpts: mailbox[0x37],
     };
     if fits_store(logs, store) {
-        return InitFound::Layout(logs);
+        return Ok(logs);
     }
-    InitFound::OutOfRange
+    Err(InitError::OutOfRange)
 }

@@ -1,12 +1,10 @@
 -- What a line of a script does, and which row of the table of refusals it came to (01, Numbers returned). A line that only tells something
 -- has 0: it takes no time. The rows are counted from top to bottom, each cause of a denied record for itself; 0 is no refusal.
-use Rattle.std.specs.Prelude.{ℕ}
+use Rattle.std.specs.Prelude.{ℕ, Option, Some, None}
 use Rattle.checks.specs.declared.Denial.{Denial}
 use Rattle.checks.specs.declared.Denial.TheVariants as denial
 use Rattle.rules.specs.declared.Refusal.{Refusal}
 use Rattle.rules.specs.declared.Refusal.TheVariants as refusal
-use Rattle.call_causes.specs.declared.Cause.{Cause}
-use Rattle.call_causes.specs.declared.Cause.TheVariants as cause
 use Rattle.script_keywords.specs.declared.Call.{Call}
 use Rattle.script_keywords.specs.declared.Call.TheVariants as call
 use Rattle.script_keywords.specs.declared.Memory.{Memory}
@@ -71,6 +69,6 @@ refusal_row refusal.Held = 13
 refusal_row (refusal.Denied d) = denial_row d
 refusal_row refusal.Full = 18
 
-abbrev pub row_code : Cause → ℕ
-row_code cause.None = 0
-row_code (cause.Refused c) = refusal_row c
+abbrev pub row_code : Option Refusal → ℕ
+row_code None = 0
+row_code (Some c) = refusal_row c

@@ -4,7 +4,6 @@
 ghost use Rattle.std.specs.Prelude.{◌≡◌};
 ghost use Rattle.wave_codes.specs.Codes.{call_line, memory_line, device_line, line_code, denial_row, refusal_row, row_code};
 
-use call_causes::Cause;
 use checks::Denial;
 use rules::Refusal;
 use script_keywords::{Call, Device, Keyword, Memory};
@@ -92,11 +91,11 @@ fn refusal_row(refusal: Refusal) -> u64
 }
 
 // The row of a refusal, from top to bottom; 0 for none.
-pub fn row_code(cause: Cause) -> u64
+pub fn row_code(cause: Option<Refusal>) -> u64
     ensures { result ≡ row_code cause }
 {
     match cause {
-        Cause::None => 0,
-        Cause::Refused(refusal) => refusal_row(refusal),
+        None => 0,
+        Some(refusal) => refusal_row(refusal),
     }
 }

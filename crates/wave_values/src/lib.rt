@@ -3,7 +3,7 @@
 
 ghost use Rattle.std.specs.Prelude.{◌≡◌, length};
 ghost use Rattle.request_table.specs.Records.{records_of};
-ghost use Rattle.wave_values.specs.Values.{request_code, kind_shown, engine_cq, engine_eq, cq_shown, eq_shown};
+ghost use Rattle.wave_values.specs.Values.{request_code, kind_shown, cq_shown, eq_shown};
 ghost use Rattle.wave_values.specs.Values.{occupied_values, free_values, slot_values, records_held, held_by};
 
 use context::Record;
@@ -13,31 +13,13 @@ use slots::{Slot, Status};
 // A signal that has no value now.
 pub const ABSENT: u64 = 0x1_0000_0000;
 
-fn wide16(n: u16) -> u64
-    ensures { result ≡ n }
-{
-    n as u64
-}
-
-fn wide32(n: u32) -> u64
-    ensures { result ≡ n }
-{
-    n as u64
-}
-
-fn wide8(n: u8) -> u64
-    ensures { result ≡ n }
-{
-    n as u64
-}
-
 // The op of a command, or 256 more than the number of an engine request.
 fn request_code(request: Request) -> u64
     ensures { result ≡ request_code request }
 {
     match request {
-        Request::Command(command) => wide16(request_codes::command_op(command)),
-        Request::Engine(engine) => 256 + wide32(request_codes::engine_number(engine)),
+        Request::Command(command) => u64::from(request_codes::command_op(command)),
+        Request::Engine(engine) => 256 + u64::from(request_codes::engine_number(engine)),
     }
 }
 
@@ -53,37 +35,13 @@ fn kind_shown(request: Request) -> u64
     }
 }
 
-fn engine_cq(engine: EngineRequest) -> u64
-    ensures { result ≡ engine_cq engine }
-{
-    match engine {
-        EngineRequest::ReadState(_) => ABSENT,
-        EngineRequest::ReadNext(_) => ABSENT,
-        EngineRequest::ReadAll(_) => ABSENT,
-        EngineRequest::Write(_, _, _, _) => ABSENT,
-        EngineRequest::ReadJoined(_, c, _) => wide32(c.0),
-    }
-}
-
-fn engine_eq(engine: EngineRequest) -> u64
-    ensures { result ≡ engine_eq engine }
-{
-    match engine {
-        EngineRequest::ReadState(_) => ABSENT,
-        EngineRequest::ReadNext(_) => ABSENT,
-        EngineRequest::ReadAll(_) => ABSENT,
-        EngineRequest::Write(_, _, _, _) => ABSENT,
-        EngineRequest::ReadJoined(_, _, e) => wide32(e.0),
-    }
-}
-
 // The completion queue that a joined read has.
 fn cq_shown(request: Request) -> u64
     ensures { result ≡ cq_shown request }
 {
     match request {
-        Request::Command(_) => ABSENT,
-        Request::Engine(engine) => engine_cq(engine),
+        Request::Engine(EngineRequest::ReadJoined(_, c, _)) => u64::from(c.0),
+        _ => ABSENT,
     }
 }
 
@@ -92,34 +50,30 @@ fn eq_shown(request: Request) -> u64
     ensures { result ≡ eq_shown request }
 {
     match request {
-        Request::Command(_) => ABSENT,
-        Request::Engine(engine) => engine_eq(engine),
+        Request::Engine(EngineRequest::ReadJoined(_, _, e)) => u64::from(e.0),
+        _ => ABSENT,
     }
 }
 
 fn occupied(code: u64, request: Request, moved: u8, left: u8) -> [u64; 8]
     ensures { result ≡ occupied_values code request moved left }
 {
-    let mut values = [0u64; 8];
-    values[0] = code;
-    values[1] = request_code(request);
-    values[2] = kind_shown(request);
-    values[3] = wide32(request_codes::index_of(request));
-    values[4] = cq_shown(request);
-    values[5] = eq_shown(request);
-    values[6] = wide8(moved);
-    values[7] = wide8(left);
-    values
+    [
+        code,
+        request_code(request),
+        kind_shown(request),
+        u64::from(request_codes::index_of(request)),
+        cq_shown(request),
+        eq_shown(request),
+        u64::from(moved),
+        u64::from(left),
+    ]
 }
 
 fn free() -> [u64; 8]
     ensures { result ≡ free_values }
 {
-    let mut values = [ABSENT; 8];
-    values[0] = 0;
-    values[1] = 0;
-    values[2] = 0;
-    values
+    [0, 0, 0, ABSENT, ABSENT, ABSENT, ABSENT, ABSENT]
 }
 
 // The values of a slot's signals: status, request, kind, number, the joined read's queues, bursts moved, bursts left.
@@ -144,16 +98,10 @@ fn wide_count(request: Request) -> u64
 fn records_held(request: Request, writes: bool) -> u64
     ensures { result ≡ records_held request writes }
 {
-    if request_kinds::writes(request) {
-        if writes {
-            return wide_count(request);
-        }
-        return 0;
+    if request_kinds::writes(request) == writes {
+        return wide_count(request);
     }
-    if writes {
-        return 0;
-    }
-    wide_count(request)
+    0
 }
 
 // How many records a slot's request holds, as a writer or as a reader.

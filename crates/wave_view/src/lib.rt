@@ -2,9 +2,9 @@
 // last line left of them is kept there, so that only changes are written.
 #![tactic(auto)]
 
-use call_causes::Cause;
 use context::Logs;
 use possible::Hca;
+use rules::Refusal;
 use script_keywords::Keyword;
 use slots::Slot;
 use std::io;
@@ -90,10 +90,7 @@ fn declare_all(rt: &impl Print) -> io::Result<()> {
 }
 
 fn count(open: bool, log: u8) -> u64 {
-    if !open {
-        return ABSENT;
-    }
-    if 31 < log {
+    if !open || 31 < log {
         return ABSENT;
     }
     1 << log
@@ -113,11 +110,9 @@ fn put_adapter(view: &mut [u64; 80], hca: Hca) {
 fn put_slot(view: &mut [u64; 80], k: usize, slot: Slot) {
     let values = wave_values::slot_values(slot);
     let first = SLOTS + k % 8 * 8;
-    for j in 0..8 {
-        view[first + j] = values[j];
-    }
-    view[READERS] = std::num::wrapping_add_u64(view[READERS], wave_values::held(slot, false));
-    view[WRITERS] = std::num::wrapping_add_u64(view[WRITERS], wave_values::held(slot, true));
+    view[first..first + 8].copy_from_slice(&values);
+    view[READERS] = view[READERS].wrapping_add(wave_values::held(slot, false));
+    view[WRITERS] = view[WRITERS].wrapping_add(wave_values::held(slot, true));
 }
 
 fn put_slots(view: &mut [u64; 80], row: [Slot; 9]) {
@@ -126,21 +121,18 @@ fn put_slots(view: &mut [u64; 80], row: [Slot; 9]) {
     }
 }
 
-fn returned(cause: Cause) -> u64 {
+fn returned(cause: Option<Refusal>) -> u64 {
     match cause {
-        Cause::None => 0,
-        Cause::Refused(refusal) => numbers_returned::refusal_number(refusal) as u64,
+        None => 0,
+        Some(refusal) => u64::from(numbers_returned::refusal_number(refusal)),
     }
 }
 
 // A line that is no call returns nothing.
-fn put_line(view: &mut [u64; 80], code: u64, why: Cause) {
+fn put_line(view: &mut [u64; 80], code: u64, why: Option<Refusal>) {
     view[LINE] = code;
     view[RETURNED] = ABSENT;
-    if code == 0 {
-        return;
-    }
-    if 5 < code {
+    if code == 0 || 5 < code {
         return;
     }
     view[RETURNED] = returned(why);
@@ -173,10 +165,7 @@ fn print_change(rt: &impl Print, i: usize, value: u64) -> io::Result<()> {
     if i == ROW {
         return wave_names::print_row(rt, i, value);
     }
-    if i < SLOTS {
-        return print_value(rt, i, value);
-    }
-    if LINE < i {
+    if i < SLOTS || LINE < i {
         return print_value(rt, i, value);
     }
     print_slot_change(rt, i, i % 8, value)
@@ -185,10 +174,7 @@ fn print_change(rt: &impl Print, i: usize, value: u64) -> io::Result<()> {
 // Writes what has changed, and keeps it.
 fn print_changes(rt: &impl Print, view: &[u64; 80], seen: &mut [u64; 80]) -> io::Result<()> {
     for i in 0..75 {
-        if i == MARK {
-            continue;
-        }
-        if view[i] == seen[i] {
+        if i == MARK || view[i] == seen[i] {
             continue;
         }
         print_change(rt, i, view[i])?;
@@ -203,10 +189,8 @@ pub fn begin(rt: &impl Print, hca: Hca, row: [Slot; 9], seen: &mut [u64; 80]) ->
     let mut view = [0u64; 80];
     put_adapter(&mut view, hca);
     put_slots(&mut view, row);
-    put_line(&mut view, 0, Cause::None);
-    for i in 0..80 {
-        seen[i] = UNWRITTEN;
-    }
+    put_line(&mut view, 0, None);
+    seen.fill(UNWRITTEN);
     script_print::text(rt, b"#0\n$dumpvars\n")?;
     print_changes(rt, &view, seen)?;
     script_print::text(rt, b"$end\n")?;
@@ -216,7 +200,7 @@ pub fn begin(rt: &impl Print, hca: Hca, row: [Slot; 9], seen: &mut [u64; 80]) ->
 
 // The next time: a line more has taken one.
 fn print_time(rt: &impl Print, line: u64, seen: &mut [u64; 80]) -> io::Result<()> {
-    let time = std::num::wrapping_add_u64(seen[TIME], 1);
+    let time = seen[TIME].wrapping_add(1);
     seen[TIME] = time;
     wave_text::print_time(rt, time, line)?;
     wave_text::print_bit(rt, MARK, 1)
@@ -227,7 +211,7 @@ pub fn after_line(
     rt: &impl Print,
     hca: Hca,
     row: [Slot; 9],
-    why: Cause,
+    why: Option<Refusal>,
     keyword: Keyword,
     line: u64,
     seen: &mut [u64; 80],
@@ -246,7 +230,5 @@ pub fn after_line(
 
 // The end of the waves, one time behind the last line, so that a viewer shows what it left.
 pub fn end(rt: &impl Print, seen: &[u64; 80]) -> io::Result<()> {
-    script_print::text(rt, b"#")?;
-    script_print::decimal(rt, std::num::wrapping_add_u64(seen[TIME], 1))?;
-    script_print::end(rt)
+    println!(rt; "#{}", seen[TIME].wrapping_add(1))
 }

@@ -1,5 +1,5 @@
 -- The moves of one word and of all words of a burst, in the steps of the code: r is the burst at first, out the burst afterwards.
-use Rattle.std.specs.Prelude.{◌≡◌, Bool, true, false, List, ℕ, ◌+◌, ◌%◌, ◌≤◌, ◌<◌, length}
+use Rattle.std.specs.Prelude.{◌≡◌, Bool, true, false, List, ℕ, ◌+◌, ◌*◌, ◌/◌, ◌%◌, ◌≤◌, ◌<◌, length}
 use Rattle.std.proofs.Common.{sym, ◌∙◌, ap, arith, lt-ltb, le-ltb}
 use Rattle.words.specs.Parts.{part, splice}
 use Rattle.words.specs.Maps.{map_from}
@@ -52,16 +52,19 @@ pub stored_left : (n first at : ℕ) (image r : List ℕ) → n ≤ first + at
 unfolding before image_byte
 stored_left n first at image r h = word_left _ (first + at) first image r (λ i k. le-ltb i n (omega (arith, k)))
 
--- ---- the loop over the words: m is the burst at its head
+-- ---- the loop over the words: k of them are done, and m is the burst at its head
 
-pub words_again : (f : ℕ → ℕ → ℕ) (first at : ℕ) (r m out : List ℕ) → Burst r first → at % 4 ≡ 0
-    → m ≡ map_from (before (first + at) f) first r → out ≡ map_from (on_word (first + at) f) first m
-    → out ≡ map_from (before (first + (at + 4)) f) first r
-words_again f first at r m out burst place = words_step f first r at m out (omega (arith, burst.aligned)) place
+pub words_again : (f : ℕ → ℕ → ℕ) (first k : ℕ) (r m out : List ℕ) → Burst r first
+    → m ≡ map_from (before (first + k * 4) f) first r → out ≡ map_from (on_word (first + k * 4) f) first m
+    → out ≡ map_from (before (first + (k + 1) * 4) f) first r
+words_again f first k r m out burst e w =
+    let next : k * 4 + 4 ≡ (k + 1) * 4 = omega arith in
+    words_step f first r (k * 4) m out (omega (arith, burst.aligned)) (omega arith) e w
+    ∙ ap (λ (n : ℕ). map_from (before (first + n) f) first r) next
 
-pub words_all : (f : ℕ → ℕ → ℕ) (first at : ℕ) (r m : List ℕ) → Burst r first → m ≡ map_from (before (first + at) f) first r
-    → burst_size ≤ at → m ≡ map_from f first r
-words_all f first at r m burst e h = words_done f first r at m e (omega (arith, burst.long))
+pub words_all : (f : ℕ → ℕ → ℕ) (first k : ℕ) (r m : List ℕ) → Burst r first → m ≡ map_from (before (first + k * 4) f) first r
+    → burst_size / 4 ≤ k → m ≡ map_from f first r
+words_all f first k r m burst e h = words_done f first r (k * 4) m e (omega (arith, burst.long))
 
 pub length_mapped : (f : ℕ → ℕ → ℕ) (first n : ℕ) (r out : List ℕ) → out ≡ map_from f first r → length r ≡ n → length out ≡ n
 length_mapped f first n r out e h = ap length e ∙ length_map_from f first r ∙ h

@@ -12,21 +12,13 @@ ghost use Rattle.word_moves.specs.Places.{on_word, before, image_byte, Burst, Wo
 use burst_table::BURST;
 use edges::Edge;
 
-// Copies the image's word at `from` to `to` of the burst. All four bytes are read before one is
-// written, so that they are moved together.
+// Copies the image's word at `from` to `to` of the burst.
 pub fn copy_word(image: &[u8], from: usize, burst: &mut [u8], to: usize)
     requires from_in_bounds { from + 4 ≤ length image.now }
     requires to_in_bounds { to + 4 ≤ length burst.old }
     ensures { burst.new ≡ splice to (part from 4 image.now) burst.old }
 {
-    let b0 = image[from];
-    let b1 = image[from + 1];
-    let b2 = image[from + 2];
-    let b3 = image[from + 3];
-    burst[to] = b0;
-    burst[to + 1] = b1;
-    burst[to + 2] = b2;
-    burst[to + 3] = b3;
+    burst[to..to + 4].copy_from_slice(&image[from..from + 4]);
 }
 
 // Takes the word at `at` of the burst from the image where the edge does.
@@ -48,10 +40,8 @@ pub fn take_words(edge: Edge, burst: &mut [u8], image: &[u8], first: usize)
     requires burst { Burst burst.old first }
     ensures { burst.new ≡ map_from (taken_byte edge image.now) first burst.old }
 {
-    let mut at = 0;
-    while at < BURST {
-        take_word(edge, burst, image, first, at);
-        at += 4;
+    for k in 0..BURST / 4 {
+        take_word(edge, burst, image, first, k * 4);
     }
 }
 
@@ -68,6 +58,7 @@ fn store_word(stored: usize, burst: &mut [u8], image: &[u8], first: usize, at: u
     }
 }
 
+// The same loop as in `take_words`: one over a closure would carry the contract of its step, and be no plainer.
 // The words of the burst that lie before `stored` of the record.
 pub fn store_words(stored: usize, burst: &mut [u8], image: &[u8], first: usize)
     requires stored_in_bounds { stored ≤ length image.now }
@@ -75,9 +66,7 @@ pub fn store_words(stored: usize, burst: &mut [u8], image: &[u8], first: usize)
     requires burst { Burst burst.old first }
     ensures { burst.new ≡ map_from (before stored (image_byte image.now)) first burst.old }
 {
-    let mut at = 0;
-    while at < BURST {
-        store_word(stored, burst, image, first, at);
-        at += 4;
+    for k in 0..BURST / 4 {
+        store_word(stored, burst, image, first, k * 4);
     }
 }

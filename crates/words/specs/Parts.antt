@@ -1,5 +1,5 @@
 -- A part of a list of bytes, and a list with a part replaced: where they lie, one inside the other, and apart.
-use Rattle.std.specs.Prelude.{List, ◌++◌, ℕ, ◌+◌, ◌-◌, take}
+use Rattle.std.specs.Prelude.{List, ◌++◌, ℕ, ◌+◌, take}
 use Rattle.std.proofs.Math.ListN.{length, drop}
 
 -- the n elements of l from at

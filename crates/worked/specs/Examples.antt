@@ -1,11 +1,12 @@
 -- The examples marked P (01, Examples to hold it against), in a single table with a single statement; where it is cheap, by whole calls.
-use Rattle.std.specs.Prelude.{◌≡◌, refl, false, List, [], ◌∷◌, ◌++◌, map, ℕ, ◌*◌, replicate}
+use Rattle.std.specs.Prelude.{◌≡◌, refl, false, List, [], ◌∷◌, ◌++◌, map, ℕ, ◌*◌, replicate, Result, Ok, Err}
 use Rattle.words.specs.Maps.{map_from}
 use Rattle.words.specs.Parts.{splice}
 use Rattle.words.specs.Words.{le_bytes, be32, be_bytes}
 use Rattle.hcr.specs.Register.{read_of, read_answer_number}
-use Rattle.hcr.specs.declared.ReadAnswer.{ReadAnswer}
-use Rattle.hcr.specs.declared.ReadAnswer.TheVariants as hcr
+use Rattle.hcr.specs.declared.HcrCommand.{HcrCommand}
+use Rattle.hcr.specs.declared.ReadError.{ReadError}
+use Rattle.hcr.specs.declared.ReadError.TheVariants as readError
 use Rattle.context.specs.Init.{logs_of}
 use Rattle.context.specs.Layout.{in_use, record_at}
 use Rattle.context.specs.declared.Logs.{Logs}
@@ -69,10 +70,10 @@ abbrev pub register : ℕ → List ℕ
 register w = replicate 24 0 ++ le_bytes 4 w
 
 -- what the register's reader gives: op and op_modifier, or the number of its refusal
-abbrev pub read_back : ReadAnswer → List ℕ
-read_back (hcr.Command c) = c.op ∷ c.op_modifier ∷ []
-read_back hcr.Short = read_answer_number hcr.Short ∷ []
-read_back hcr.Malformed = read_answer_number hcr.Malformed ∷ []
+abbrev pub read_back : Result HcrCommand ReadError → List ℕ
+read_back (Ok c) = c.op ∷ c.op_modifier ∷ []
+read_back (Err readError.Short) = read_answer_number (Err readError.Short) ∷ []
+read_back (Err readError.Malformed) = read_answer_number (Err readError.Malformed) ∷ []
 
 -- a queue pair's record with a state, a service type and a word 84h
 abbrev pub qp_with : State → ℕ → ℕ → List ℕ

@@ -4,7 +4,7 @@ use Rattle.byte_rule.proofs.with_state.Goals as goal
 
 pub returns-then-at-eq0 : goal.returns-then-at-eq0
 unfolding with_state
-returns-then-at-eq0 c = rw (← c.state_code.ensures) (search cases)
+returns-then-at-eq0 c = rw (← c.from.ensures) (search cases)
 
 pub returns : goal.returns
 unfolding with_state

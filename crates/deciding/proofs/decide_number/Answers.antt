@@ -7,18 +7,18 @@ use Rattle.deciding.proofs.decide_number.Goals as goal
 
 pub returns-then-not-hca : goal.returns-then-not-hca
 unfolding decide_number
-returns-then-not-hca c room = rw c.in-Served.is (pick_yes _ _ _ _ c.if-not-hca.true refl)
+returns-then-not-hca c room = rw c.in-Some.is (pick_yes _ _ _ _ c.if-not-hca.true refl)
 
 pub decide_asked-requires : goal.decide_asked-requires
 decide_asked-requires c = search (rules, engine_stored)
 
-pub returns-else-not-hca : goal.returns-else-not-hca
+pub returns : goal.returns
 unfolding decide_number
-returns-else-not-hca c room =
-    rw c.in-Served.is
+returns c room =
+    rw c.in-Some.is
     (pick_no _ _ _ _ c.if-not-hca.false
-    (c.decide_asked.ensures room ∙ ap (decide_asked _) c.read_engine.ensures.0))
+    (c.decide_asked.ensures room ∙ ap (decide_asked _) c.read_engine-asked.ensures.0))
 
-pub returns-in-NotServed : goal.returns-in-NotServed
+pub returns-in_default : goal.returns-in_default
 unfolding decide_number
-returns-in-NotServed c room = rw c.in-NotServed.is
+returns-in_default c room = rw c.in_default.is

@@ -1,10 +1,10 @@
 use Rattle.rules.specs.Admission.{decide_place}
 use Rattle.deciding_joined.proofs.decide_place.Goals as goal
 
-pub returns-in-At : goal.returns-in-At
+pub returns-in_default : goal.returns-in_default
 unfolding decide_place
-returns-in-At c = rw c.in-At.is
+returns-in_default c = rw c.in_default.is
 
-pub returns-in-Nothing : goal.returns-in-Nothing
+pub returns : goal.returns
 unfolding decide_place
-returns-in-Nothing c = rw c.in-Nothing.is
+returns c = rw c.in-Some.is

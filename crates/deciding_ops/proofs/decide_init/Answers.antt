@@ -1,14 +1,11 @@
 use Rattle.rules.specs.Commands.{decide_init}
+use borrow.Author.Rules.{rules}
 use Rattle.deciding_ops.proofs.decide_init.Goals as goal
 
-pub returns-in-Layout : goal.returns-in-Layout
+pub returns-in_err-found : goal.returns-in_err-found
 unfolding decide_init
-returns-in-Layout c = rw c.in-Layout.is
+returns-in_err-found c = rw c.in_err-found.was (search rules)
 
-pub returns-in-ShortMailbox : goal.returns-in-ShortMailbox
+pub returns : goal.returns
 unfolding decide_init
-returns-in-ShortMailbox c = rw c.in-ShortMailbox.is
-
-pub returns-in-OutOfRange : goal.returns-in-OutOfRange
-unfolding decide_init
-returns-in-OutOfRange c = rw c.in-OutOfRange.is
+returns c = rw c.in_ok-found.was

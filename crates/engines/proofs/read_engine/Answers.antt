@@ -2,12 +2,10 @@ use Rattle.engines.specs.Engines.{read_engine}
 use Rattle.engines.proofs.Reading.{engine_answer_lem}
 use Rattle.engines.proofs.read_engine.Goals as goal
 
-pub returns-in-Number : goal.returns-in-Number
+pub returns-in_err-n : goal.returns-in_err-n
 unfolding read_engine
-returns-in-Number c =
-    engine_answer_lem _ _ _ _ _ _
-    (rw (← c.qp_number.ensures.0, c.in-Number.is) c.engine_on.ensures)
+returns-in_err-n c = engine_answer_lem _ _ _ _ _ _ (rw (← c.qp_number.ensures.0, c.in_err-n.was) c.from_residual.ensures)
 
-pub returns-in-OutOfRange : goal.returns-in-OutOfRange
+pub returns : goal.returns
 unfolding read_engine
-returns-in-OutOfRange c = engine_answer_lem _ _ _ _ _ _ (rw (← c.qp_number.ensures.0, c.in-OutOfRange.is))
+returns c = engine_answer_lem _ _ _ _ _ _ (rw (← c.qp_number.ensures.0, c.in_ok-n.was) c.engine_on.ensures)

@@ -3,4 +3,4 @@ use Rattle.exported_step.proofs.count_burst.Goals as goal
 
 pub returns : goal.returns
 unfolding counted
-returns c = (rw c.wide.ensures.0, rw c.status_with.ensures)
+returns c = (rw c.from.ensures, rw c.status_with.ensures)

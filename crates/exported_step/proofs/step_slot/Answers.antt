@@ -12,4 +12,4 @@ pub returns : goal.returns
 returns c =
     moved_left c.requires c.slot_at-slot.ensures _ _ _ _ _
     c.in-Running.is c.move_burst.ensures
-    c.advance-next.ensures c.write_moved.ensures c.wide.ensures.0
+    c.advance-next.ensures c.write_moved.ensures c.from.ensures

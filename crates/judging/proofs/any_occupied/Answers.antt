@@ -1,4 +1,3 @@
-use Rattle.std.proofs.Common.{false}
 use Rattle.judging.specs.Device.{occupied_none, occupied_more, occupied_found}
 use borrow.Author.Rules.{rules}
 use Rattle.judging.proofs.any_occupied.Goals as goal

@@ -4,4 +4,4 @@ use borrow.Author.Rules.{rules}
 use Rattle.register_calls.proofs.read_le16.Goals as goal
 
 pub returns : goal.returns
-returns c = c.join_16.ensures ∙ number_two _ _ (search rules)
+returns c = c.from_le_bytes.ensures ∙ number_two _ _ (search rules)

@@ -1,5 +1,5 @@
 -- Laws about the definitions of specs/Laws/Decided.antt.
-use Rattle.std.specs.Prelude.{◌≡◌, Bool, true, false, not, ℕ, eqb, ltb, length}
+use Rattle.std.specs.Prelude.{◌≡◌, Bool, true, false, not, ℕ, eqb, ltb, length, Option, Some, None, Result, Ok, Err}
 use Rattle.std.proofs.Math.Path.{refl}
 use Rattle.std.proofs.Common.{sym, ◌∙◌, ap, inl, inr, arith}
 use mathlib.Core.List.{List, []}
@@ -9,49 +9,41 @@ use Rattle.words.proofs.Choice.{by_pick, both_yes}
 use Rattle.words.proofs.Tests.{neither_left, neither_right}
 use Rattle.hcr.specs.Register.{read_of}
 use Rattle.hcr.specs.declared.HcrCommand.{HcrCommand}
-use Rattle.hcr.specs.declared.ReadAnswer.{ReadAnswer}
-use Rattle.hcr.specs.declared.ReadAnswer.TheVariants as hcr
+use Rattle.hcr.specs.declared.ReadError.{ReadError}
+use Rattle.hcr.specs.declared.ReadError.TheVariants as readError
 use Rattle.context.specs.Layout.{is_record}
 use Rattle.context.specs.Init.{init_of}
 use Rattle.context.specs.declared.CqNumber.{CqNumber}
 use Rattle.context.specs.declared.EqNumber.{EqNumber}
-use Rattle.context.specs.declared.InitFound.{InitFound}
-use Rattle.context.specs.declared.InitFound.TheVariants as init
 use Rattle.context.specs.declared.QpNumber.{QpNumber}
 use Rattle.context.specs.declared.Record.{Record}
 use Rattle.context.specs.declared.Record.TheVariants as rec
+use Rattle.context.specs.declared.InitError.{InitError}
+use Rattle.context.specs.declared.Logs.{Logs}
+use Rattle.context.specs.declared.InitError.TheVariants as initError
 use Rattle.numbers.specs.Numbers.{cq_of, eq_of}
-use Rattle.numbers.specs.declared.CqFound.{CqFound}
-use Rattle.numbers.specs.declared.EqFound.{EqFound}
 use Rattle.requests.specs.declared.EngineRequest.{EngineRequest}
 use Rattle.requests.specs.declared.EngineRequest.TheVariants as requested
 use Rattle.requests.specs.declared.Request.{Request}
 use Rattle.requests.specs.declared.Request.TheVariants as request
 use Rattle.commands.specs.Commands.{read_op, read_command}
-use Rattle.commands.specs.declared.CommandFound.{CommandFound}
 use Rattle.commands.specs.declared.Op.{Op}
-use Rattle.commands.specs.declared.OpFound.{OpFound}
-use Rattle.commands.specs.declared.OpFound.TheVariants as opFound
+use Rattle.commands.specs.declared.CommandAsked.{CommandAsked}
 use Rattle.engines.specs.Engines.{read_number, read_engine}
-use Rattle.engines.specs.declared.EngineFound.{EngineFound}
-use Rattle.engines.specs.declared.EngineFound.TheVariants as engine
-use Rattle.engines.specs.declared.NumberFound.{NumberFound}
-use Rattle.engines.specs.declared.NumberFound.TheVariants as number
+use Rattle.engines.specs.declared.EngineAsked.{EngineAsked}
+use Rattle.engines.specs.declared.EngineNumber.{EngineNumber}
+use Rattle.engines.specs.declared.EngineAsked.TheVariants as asked
 use Rattle.request_table.specs.Records.{engine_record, records_of, all_records}
 use Rattle.request_table.specs.Listed.{In}
 use Rattle.mailboxes.specs.Mailboxes.{need_of}
 use Rattle.contents.specs.Content.{content_holds}
 use Rattle.checks.specs.Fields.{cq_named, eq_named}
-use Rattle.checks.specs.declared.Verdict.{Verdict}
-use Rattle.checks.specs.declared.Verdict.TheVariants.{Permitted, Denied}
+use Rattle.checks.specs.declared.Denial.{Denial}
 use Rattle.records.specs.Memory.{record_in, permission_in}
 use Rattle.slots.specs.Slots.{is_occupied, has_command}
 use Rattle.rows.specs.Rows.{any_slot, lowest_free}
 use Rattle.holds.specs.Holds.{held_against, read_held}
 use Rattle.holds.proofs.Laws.{held_joined}
-use Rattle.rows.specs.declared.SlotFound.{SlotFound}
-use Rattle.rows.specs.declared.SlotFound.TheVariants.{At, Nothing}
-use Rattle.rules.specs.declared.Decision.{Decision}
 use Rattle.rules.specs.declared.Refusal.TheVariants as cause
 use Rattle.rules.specs.World.{World, store_length, bad_lent, bad_state}
 use Rattle.rules.specs.Names.{arguments_of, read_joined, joins}
@@ -64,23 +56,25 @@ use Rattle.rules.proofs.Laws.Found.{Reads, wrong, init as initReads, close, nop,
 use Rattle.rules.specs.Laws.Named.{no_cq, no_eq, trail_of}
 use Rattle.rules.proofs.Laws.Named.{alone_fits}
 use Rattle.rules.specs.Laws.Decided.{Asking, Decided, Judging, Missing, Passing, closes, cqs_of, denied, eqs_of, misnamed, opens, plain, qps_of, rests, takes}
+use Rattle.rules.specs.declared.Decision.{Decision}
+use Rattle.rules.specs.declared.Refusal.{Refusal}
 
 -- ---- a request on a record
 
 module _ (w : World) (mail : List ℕ) (q : Request) (a : Asking w q) where
-  abbrev Ends : Decision → Type 0
+  abbrev Ends : Result Decision Refusal → Type 0
   Ends d = Decided w mail (asks_request (arguments_of q)) d
 
-  pub placed : Judging w q mail → permission_in w.hca.logs w.memory q ≡ Permitted
-      → (f : SlotFound) → lowest_free 0 w.row ≡ f → Ends (decide_place q f)
+  pub placed : Judging w q mail → permission_in w.hca.logs w.memory q ≡ Ok tt
+      → (f : Option ℕ) → lowest_free 0 w.row ≡ f → Ends (decide_place q f)
   unfolding decide_place
-  placed j p (At k) e = takes j p e
-  placed j p Nothing e = plain cause.Full refl
+  placed j p (Some k) e = takes j p e
+  placed j p None e = plain cause.Full refl
 
-  judged : Judging w q mail → (v : Verdict) → permission_in w.hca.logs w.memory q ≡ v → Ends (decide_verdict w q v)
+  judged : Judging w q mail → (v : Result (Unit {0}) Denial) → permission_in w.hca.logs w.memory q ≡ v → Ends (decide_verdict w q v)
   unfolding decide_verdict
-  judged j Permitted e = placed j e (lowest_free 0 w.row) refl
-  judged j (Denied d) e = denied j e
+  judged j (Ok tt) e = placed j e (lowest_free 0 w.row) refl
+  judged j (Err d) e = denied j e
 
   pub request_decided : Ends (decide_request w q mail)
   unfolding decide_request
@@ -101,14 +95,14 @@ is_open : (b : Bool) → not b ≡ false → b ≡ true
 is_open b e = not-false b e
 
 module _ (w : World) (mail : List ℕ) (p : Passing w) where
-  init_decided : w.hca.«open» ≡ false → (i : InitFound) → init_of mail (store_length w) ≡ i → Decided w mail asks_init (decide_init i)
+  init_decided : w.hca.«open» ≡ false → (i : Result Logs InitError) → init_of mail (store_length w) ≡ i → Decided w mail asks_init (decide_init i)
   unfolding decide_init
-  init_decided o (init.Layout g) e = opens p o e
-  init_decided o init.ShortMailbox e = plain cause.ShortMailbox refl
-  init_decided o init.OutOfRange e = plain cause.BadContent refl
+  init_decided o (Ok g) e = opens p o e
+  init_decided o (Err initError.ShortMailbox) e = plain cause.ShortMailbox refl
+  init_decided o (Err initError.OutOfRange) e = plain cause.BadContent refl
 
   found_decided : (o : Op) → bad_system w.hca.«open» o ≡ false → busy w.row o ≡ false
-      → (f : CommandFound) → Reads w.hca.logs o f → Decided w mail (found_asked f) (decide_found w mail f)
+      → (f : Option CommandAsked) → Reads w.hca.logs o f → Decided w mail (found_asked f) (decide_found w mail f)
   unfolding decide_found busy
   found_decided o s b f wrong = plain cause.BadParameter refl
   found_decided o s b f initReads = init_decided s (init_of mail (store_length w)) refl
@@ -124,20 +118,20 @@ module _ (w : World) (mail : List ℕ) (p : Passing w) where
         named = refl;
       })
 
-  op_decided : (c : HcrCommand) (f : OpFound) → Decided w mail (op_asked w.hca.logs c f) (decide_op w mail c f)
+  op_decided : (c : HcrCommand) (f : Option Op) → Decided w mail (op_asked w.hca.logs c f) (decide_op w mail c f)
   unfolding decide_op
-  op_decided c opFound.NotServed = plain cause.NotServed refl
-  op_decided c (opFound.Served o) =
-      let f : CommandFound = read_command w.hca.logs o c.op_modifier c.in_modifier in
+  op_decided c None = plain cause.NotServed refl
+  op_decided c (Some o) =
+      let f : Option CommandAsked = read_command w.hca.logs o c.op_modifier c.in_modifier in
       by_pick (Decided w mail (found_asked f)) (bad_system w.hca.«open» o) _ _ (λ _. plain cause.BadSystemState refl)
       (λ s. by_pick (Decided w mail (found_asked f)) (busy w.row o) _ _ (λ _. plain cause.Busy refl)
       (λ b. found_decided o s b f (command_reads w.hca.logs o c.op_modifier c.in_modifier)))
 
-  register_decided : (r : ReadAnswer) → Decided w mail (register_asked w.hca.logs r) (decide_register w mail r)
+  register_decided : (r : Result HcrCommand ReadError) → Decided w mail (register_asked w.hca.logs r) (decide_register w mail r)
   unfolding decide_register
-  register_decided hcr.Short = plain cause.BadLength refl
-  register_decided hcr.Malformed = plain cause.Malformed refl
-  register_decided (hcr.Command c) =
+  register_decided (Err readError.Short) = plain cause.BadLength refl
+  register_decided (Err readError.Malformed) = plain cause.Malformed refl
+  register_decided (Ok c) =
       by_pick (Decided w mail (op_asked w.hca.logs c (read_op c.op))) c.event _ _ (λ _. plain cause.Malformed refl)
       (λ _. op_decided c (read_op c.op))
 
@@ -153,7 +147,7 @@ command_decided w bytes mail =
 
 module _ (w : World) (p : Passing w) (o : w.hca.«open» ≡ true) (n : QpNumber) (v : is_record w.hca.logs (rec.Qp n) ≡ true)
     (h : read_held w.row (rec.Qp n) ≡ false) where
-  abbrev Joined : Decision → Type 0
+  abbrev Joined : Result Decision Refusal → Type 0
   Joined d = Decided w [] (asks_request (read_joined n)) d
 
   abbrev bytes : Record → List ℕ
@@ -205,7 +199,7 @@ module _ (w : World) (p : Passing w) (o : w.hca.«open» ≡ true) (n : QpNumber
     eq_decided : Joined (decide_eq w n c (eq_of w.hca.logs (eq_named (bytes (rec.Cq c)))))
     unfolding decide_eq permission_in
     eq_decided =
-        by_pick (λ (x : EqFound). Joined (decide_eq w n c x)) (ltb (eq_named (bytes (rec.Cq c))) (eqs_of w)) _ _
+        by_pick (λ (x : Option EqNumber). Joined (decide_eq w n c x)) (ltb (eq_named (bytes (rec.Cq c))) (eqs_of w)) _ _
         (λ l. let e : EqNumber = record { 0 = eq_named (bytes (rec.Cq c)) } in
         by_pick Joined (read_held w.row (rec.Eq e)) _ _ (λ _. plain cause.Held refl)
         (λ he. let j : Judging w (joins n c e) [] = eq_found e l refl he in
@@ -222,7 +216,7 @@ module _ (w : World) (p : Passing w) (o : w.hca.«open» ≡ true) (n : QpNumber
   cq_decided : Joined (decide_cq w n (cq_of w.hca.logs (cq_named (bytes (rec.Qp n)))))
   unfolding decide_cq
   cq_decided =
-      by_pick (λ (x : CqFound). Joined (decide_cq w n x)) (ltb (cq_named (bytes (rec.Qp n))) (cqs_of w)) _ _
+      by_pick (λ (x : Option CqNumber). Joined (decide_cq w n x)) (ltb (cq_named (bytes (rec.Qp n))) (cqs_of w)) _ _
       (λ l. let c : CqNumber = record { 0 = cq_named (bytes (rec.Qp n)) } in
       by_pick Joined (read_held w.row (rec.Cq c)) _ _ (λ _. plain cause.Held refl) (λ hc. eq_decided c l refl hc))
       (λ l. misnamed (cq_missing l))
@@ -245,9 +239,9 @@ module _ (w : World) (p : Passing w) where
   alone_all (requested.Write f s n psn) a v = both_yes _ _ v refl
   alone_all (requested.ReadJoined n c e) a v = absurd a
 
-  asked_decided : w.hca.«open» ≡ true → (f : EngineFound) → Valid w.hca.logs f → Decided w [] (engine_found_asked f) (decide_asked w f)
+  asked_decided : w.hca.«open» ≡ true → (f : Option EngineAsked) → Valid w.hca.logs f → Decided w [] (engine_found_asked f) (decide_asked w f)
   unfolding decide_asked
-  asked_decided o (engine.OnRecord e) v =
+  asked_decided o (Some (asked.OnRecord e)) v =
       request_decided w [] (request.Engine e) (record {
         passing = p;
         opened = o;
@@ -255,15 +249,15 @@ module _ (w : World) (p : Passing w) where
         all = alone_all e v.1 v.0;
         named = alone_fits (qps_of w) (cqs_of w) (eqs_of w) e (record_in w.hca.logs w.memory) v.1;
       })
-  asked_decided o (engine.Joined n) v = joined_decided o n v
-  asked_decided o engine.Wrong v = plain cause.BadParameter refl
+  asked_decided o (Some (asked.Joined n)) v = joined_decided o n v
+  asked_decided o None v = plain cause.BadParameter refl
 
-  number_decided : (index psn code : ℕ) (f : NumberFound)
+  number_decided : (index psn code : ℕ) (f : Option EngineNumber)
       → Decided w [] (number_asked w.hca.logs index psn code f) (decide_number w index psn code f)
   unfolding decide_number
-  number_decided index psn code number.NotServed = plain cause.NotServed refl
-  number_decided index psn code (number.Served k) =
-      let f : EngineFound = read_engine w.hca.logs k index psn code in
+  number_decided index psn code None = plain cause.NotServed refl
+  number_decided index psn code (Some k) =
+      let f : Option EngineAsked = read_engine w.hca.logs k index psn code in
       by_pick (Decided w [] (engine_found_asked f)) (not w.hca.«open») _ _ (λ _. plain cause.BadSystemState refl)
       (λ o. asked_decided (is_open w.hca.«open» o) f (engine_valid w.hca.logs k index psn code))
 

@@ -1,5 +1,5 @@
 -- Laws about the definitions of specs/Laws/Outcomes.antt.
-use Rattle.std.specs.Prelude.{◌≡◌, refl, Bool, true, false, List, ℕ, ltb, length}
+use Rattle.std.specs.Prelude.{◌≡◌, refl, Bool, true, false, List, ℕ, ltb, length, Ok, Err}
 use Rattle.std.proofs.Common.{sym, ◌∙◌, arith}
 use Rattle.words.proofs.Choice.{by_pick}
 use Rattle.words.specs.Parts.{splice}
@@ -10,9 +10,6 @@ use Rattle.slots.specs.declared.Status.{Status}
 use Rattle.slots.specs.declared.Status.TheVariants.{Free, Running, Finished}
 use Rattle.rules.specs.declared.Refusal.{Refusal}
 use Rattle.rules.specs.declared.Refusal.TheVariants as cause
-use Rattle.rules.specs.declared.StepAnswer.TheVariants as step
-use Rattle.rules.specs.declared.CollectAnswer.TheVariants as collect
-use Rattle.rules.specs.declared.ResetAnswer.TheVariants as reset
 use Rattle.rules.specs.World.{World, status_at, bad_row, bad_lent, bad_state}
 use Rattle.rules.specs.Steps.{Stepped, stepped, step_refused, slot_moved, world_moved, step_on, step_of}
 use Rattle.rules.specs.Collections.{Collected, collected, collect_refused, answer_at, world_freed, collect_finished, collect_on, collect_of}
@@ -29,7 +26,7 @@ running_open w p k q m e false o =
     let z : ◌≡◌ {A = ℕ} 0 1 = cc in absurd (omega arith)
 
 module _ (w : World) (k : ℕ) (P : Stepped → Type 0) (refusals : (c : Refusal) → P (step_refused w c))
-    (moves : (q : Request) (m : ℕ) → Stepping w k q m → P (stepped (step.Left (left_of (slot_moved w k))) (world_moved w k q m))) where
+    (moves : (q : Request) (m : ℕ) → Stepping w k q m → P (stepped (Ok (left_of (slot_moved w k))) (world_moved w k q m))) where
   on_is : bad_lent w ≡ false → bad_state w ≡ false → (s : Status) → status_at k w.row ≡ s → P (step_on w k s)
   unfolding step_on
   on_is l p Free e = refusals cause.NoRequest
@@ -45,7 +42,7 @@ module _ (w : World) (k : ℕ) (P : Stepped → Type 0) (refusals : (c : Refusal
 
 module _ (w : World) (k : ℕ) (out : List ℕ) (P : Collected → Type 0) (refusals : (c : Refusal) → P (collect_refused w out c))
     (collects : (q : Request) → Collecting w k out q
-    → P (collected (collect.Collected (answer_size q)) (world_freed w k) (splice 0 (answer_at w k q) out))) where
+    → P (collected (Ok (answer_size q)) (world_freed w k) (splice 0 (answer_at w k q) out))) where
   from_is : bad_lent w ≡ false → bad_state w ≡ false → (s : Status) → status_at k w.row ≡ s → P (collect_on w k out s)
   unfolding collect_on collect_finished
   from_is l p Free e = refusals cause.NoRequest
@@ -62,7 +59,7 @@ module _ (w : World) (k : ℕ) (out : List ℕ) (P : Collected → Type 0) (refu
 
 -- ---- a reset
 
-pub reset_is : (w : World) (P : Reset → Type 0) → ((c : Refusal) → P (resetted (reset.Refused c) w))
-    → (bad_row w ≡ false → P (resetted reset.Done (world_reset w))) → P (reset_of w)
+pub reset_is : (w : World) (P : Reset → Type 0) → ((c : Refusal) → P (resetted (Err c) w))
+    → (bad_row w ≡ false → P (resetted (Ok tt) (world_reset w))) → P (reset_of w)
 unfolding reset_of
 reset_is w P refusals done = by_pick P (bad_row w) _ _ (λ _. refusals cause.BadLength) done

@@ -1,5 +1,5 @@
 -- A submission is an event: refused, refused because of the record's state, accepted, or done at once.
-use Rattle.std.specs.Prelude.{◌≡◌, Bool, true, false, length}
+use Rattle.std.specs.Prelude.{◌≡◌, Bool, true, false, length, Some, Result, Ok, Err}
 use Rattle.std.proofs.Math.Path.{refl, ap, subst}
 use Rattle.std.proofs.Common.{sym, ◌∙◌, true≢false, inl, inr, arith, get_or-set_same}
 use Rattle.std.proofs.lemmas.Bool.{false≢true}
@@ -23,8 +23,6 @@ use Rattle.checks.specs.Permission.{permission_of}
 use Rattle.checks.specs.Verdicts.{denial_number, verdict_number}
 use Rattle.checks.specs.declared.Denial.{Denial}
 use Rattle.checks.specs.declared.Denial.TheVariants as denial
-use Rattle.checks.specs.declared.Verdict.{Verdict}
-use Rattle.checks.specs.declared.Verdict.TheVariants.{Permitted, Denied}
 use Rattle.answers.specs.Answers.{answer_of}
 use Rattle.answers.proofs.Laws.{answer_agrees}
 use Rattle.bursts.specs.Copies.{copies}
@@ -43,15 +41,11 @@ use Rattle.rows.proofs.Every.{none_each}
 use Rattle.holds.specs.Holds.{clash_records, held_against}
 use Rattle.rows.proofs.Laws.{Lowest, lowest_free_is}
 use Rattle.holds.proofs.Laws.{held_none, no_writer, read_free}
-use Rattle.rows.specs.declared.SlotFound.TheVariants.{At}
 use Rattle.serial.specs.Core.{Passes}
 use Rattle.serial.specs.Slots.{runs, PassesAll, idle, turn, take, once}
 use Rattle.serial.proofs.Told.{Heard, silence, sent, into, straight, out}
-use Rattle.rules.specs.declared.Decision.{Decision}
-use Rattle.rules.specs.declared.Decision.TheVariants as decide
 use Rattle.rules.specs.declared.Refusal.{Refusal}
 use Rattle.rules.specs.declared.Refusal.TheVariants as cause
-use Rattle.rules.specs.declared.SubmitAnswer.TheVariants as submit
 use Rattle.rules.specs.Numbers.{refusal_number, of_state, for_state}
 use Rattle.rules.specs.World.{World, status_at}
 use Rattle.rules.specs.Admission.{world_taken, world_closed, applied}
@@ -70,6 +64,7 @@ use Rattle.rules.proofs.Proofs.System.{Sees, Writes, own_seen, records_in, qp_co
 use Rattle.rules.proofs.Proofs.System.{left, MidOf, join, system}
 use Rattle.rules.proofs.Proofs.Shown.{plain as book}
 use Rattle.rules.proofs.Proofs.View.{look_at, slot_view, slot_at, view_of, Fine, look_valid, look_same, look_joined, others}
+use Rattle.rules.specs.declared.Decision.{Decision}
 
 -- the note of a call, for the journal of `serial`
 abbrev pub note_for : Note → Heard system book
@@ -180,7 +175,7 @@ module _ (w : World) (mail : List ℕ) (q : Request) (g : Judging w q mail) wher
   judge_sized = lent_sized w g.asking.passing.lent
 
   -- the book's verdict on the record as it stands
-  verdict : (v : Verdict) → permission_in w.hca.logs w.memory q ≡ v → num (one q front) (look_at w) ≡ number (verdict_number v)
+  verdict : (v : Result (Unit {0}) Denial) → permission_in w.hca.logs w.memory q ≡ v → num (one q front) (look_at w) ≡ number (verdict_number v)
   unfolding front permission_in
   verdict v e =
       ap (λ (b : Bool). let o : List ℕ = gate_bytes b w.hca.logs in
@@ -191,14 +186,14 @@ module _ (w : World) (mail : List ℕ) (q : Request) (g : Judging w q mail) wher
       (fits_local (qps_of w) (cqs_of w) (eqs_of w) q (records_in (look_at w)) (record_in w.hca.logs w.memory)
       (λ X y. look_valid w X (all_in w.hca.logs X (records_of q) g.asking.all y)) ∙ g.asking.named)
       ∙ ap (λ (c : List ℕ). number (verdict_number (permission_of q c))) (look_valid w (record_of q) g.asking.valid)
-      ∙ ap (λ (x : Verdict). number (verdict_number x)) e
+      ∙ ap (λ (x : Result (Unit {0}) Denial). number (verdict_number x)) e
 
   -- what the book is fed
   fed_is : on_record (arguments_of q) front ≡ fed (arguments_of q) mail
   unfolding front
   fed_is = ap (λ (i : ℕ). on_record (arguments_of q) (part 0 i mail)) (sym (need_arguments q))
 
-  pub denied_ok : (v : Verdict) → permission_in w.hca.logs w.memory q ≡ v
+  pub denied_ok : (v : Result (Unit {0}) Denial) → permission_in w.hca.logs w.memory q ≡ v
       → Fine w w (sent (fed (arguments_of q) mail) (number (verdict_number v)))
   denied_ok v e = record {
     note = _;
@@ -207,7 +202,7 @@ module _ (w : World) (mail : List ℕ) (q : Request) (g : Judging w q mail) wher
     event = turn (record { looks = λ X. refl; slots = λ j. refl }) (passes_all w q front g.free) (verdict v e);
   }
 
-  module _ (k : ℕ) (lowest : lowest_free 0 w.row ≡ At k) (permitted : permission_in w.hca.logs w.memory q ≡ Permitted) where
+  module _ (k : ℕ) (lowest : lowest_free 0 w.row ≡ Some k) (permitted : permission_in w.hca.logs w.memory q ≡ Ok tt) where
     u : World
     u = world_taken w q mail k
 
@@ -271,7 +266,7 @@ module _ (w : World) (mail : List ℕ) (q : Request) (g : Judging w q mail) wher
           (ap (slot_view k u.room) here ∙ ap (λ (m : List ℕ). runs (one q m) (left (bursts_of q) (room_of k u.room))) front_here)
           but
           (passes_all w q front g.free)
-          (verdict Permitted permitted)
+          (verdict (Ok tt) permitted)
           (begun q front (room_of k u.room) (look_at w) (omega (arith, long)) stored stored_all buffer (writes_of q) refl);
     }
 
@@ -322,7 +317,7 @@ nop_ok w = record {
 -- ---- a submission
 
 -- a refusal that is not because of the record's state is not noted
-pub quiet : (mail : List ℕ) (a : Asked) (c : Refusal) → for_state c ≡ false → nothing ≡ submit_note mail a (submit.Refused c)
+pub quiet : (mail : List ℕ) (a : Asked) (c : Refusal) → for_state c ≡ false → nothing ≡ submit_note mail a (Err c)
 quiet mail asks_init c e = refl
 quiet mail asks_close c e = refl
 quiet mail asks_nop c e = refl
@@ -337,16 +332,16 @@ of_state_lem denial.Owner = refl
 of_state_lem denial.Name = refl
 
 pub denied_noted : (mail : List ℕ) (a : Arguments) (d : Denial)
-    → refusedNote (fed a mail) (denial_number d) ≡ submit_note mail (asks_request a) (submit.Refused (cause.Denied d))
+    → refusedNote (fed a mail) (denial_number d) ≡ submit_note mail (asks_request a) (Err (cause.Denied d))
 denied_noted mail a d = rw (of_state_lem d)
 
 -- whatever is decided but an initialisation, once applied, is an event
-pub applied_ok : (w : World) (mail : List ℕ) (a : Asked) (d : Decision) → Decided w mail a d
+pub applied_ok : (w : World) (mail : List ℕ) (a : Asked) (d : Result Decision Refusal) → Decided w mail a d
     → pick (is_init a) (is_done (applied w mail d).answer) false ≡ false
     → Fine w (applied w mail d).world (note_for (submit_note mail a (applied w mail d).answer))
 applied_ok w mail a d (plain {a = x} c e) i = subst (λ (n : Note). Fine w w (note_for n)) (quiet mail x c e) (stays w)
 applied_ok w mail a d (denied {q = q} {d = y} g e) i =
-    subst (λ (n : Note). Fine w w (note_for n)) (denied_noted mail (arguments_of q) y) (denied_ok w mail q g (Denied y) e)
+    subst (λ (n : Note). Fine w w (note_for n)) (denied_noted mail (arguments_of q) y) (denied_ok w mail q g (Err y) e)
 applied_ok w mail a d (misnamed {n = n} {t = t} g) i = missing_ok w mail n t g
 applied_ok w mail a d (takes {q = q} {k = k} g e f) i = taken_ok w mail q g k f e
 applied_ok w mail a d (closes o n) i = closed_ok w o n

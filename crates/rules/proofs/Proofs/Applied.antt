@@ -1,5 +1,5 @@
 -- What a submission leaves, once for both kinds: of each end of a decision, all that the frame says of it.
-use Rattle.std.specs.Prelude.{◌≡◌, Bool, true, false, List, [], ℕ, ◌+◌, ◌/◌, ◌≤◌, ◌<◌, eqb, length, get_or, set}
+use Rattle.std.specs.Prelude.{◌≡◌, Bool, true, false, List, [], ℕ, ◌+◌, ◌/◌, ◌≤◌, ◌<◌, eqb, length, get_or, set, Result, Ok, Err}
 use Rattle.std.proofs.Math.Path.{refl, ap}
 use Rattle.std.proofs.Common.{sym, ◌∙◌, true≢false, arith, eq-eqb, length-set, get_or-set_same, get_or-set_other}
 use Rattle.std.proofs.lemmas.Bool.{false≢true}
@@ -21,10 +21,7 @@ use Rattle.slots.specs.Slots.{slot, accepted as running}
 use Rattle.slots.specs.declared.Slot.{Slot}
 use Rattle.slots.specs.declared.Status.TheVariants.{Free, Running}
 use Rattle.rows.proofs.Laws.{Lowest, lowest_free_is}
-use Rattle.rules.specs.declared.Decision.{Decision}
 use Rattle.rules.specs.declared.Refusal.{Refusal}
-use Rattle.rules.specs.declared.SubmitAnswer.{SubmitAnswer}
-use Rattle.rules.specs.declared.SubmitAnswer.TheVariants as submit
 use Rattle.rules.specs.Numbers.{for_state}
 use Rattle.rules.specs.World.{World, status_at}
 use Rattle.rules.specs.Admission.{Submitted, submitted, world_opened, world_closed, world_taken, applied}
@@ -37,16 +34,19 @@ use Rattle.rules.proofs.Laws.Lent.{Sized, lent_sized}
 use Rattle.rules.proofs.Laws.Named.{need_arguments, fits_found}
 use Rattle.rules.specs.Laws.Decided.{Judging, Decided, plain, denied, takes, closes, rests, opens, misnamed}
 use Rattle.rules.proofs.Proofs.Admitted.{quiet, denied_noted}
+use Rattle.rules.specs.declared.Decision.{Decision}
+use Rattle.rules.specs.declared.Submission.{Submission}
+use Rattle.rules.specs.declared.Submission.TheVariants as submit
 
 abbrev pub SizesKept : World → World → Type 0
 SizesKept w u =
     (length u.row ≡ length w.row) × (length u.memory.store ≡ length w.memory.store) × (length u.room ≡ length w.room)
 
 -- not an initialisation
-abbrev NoInit : Asked → SubmitAnswer → Type 0
+abbrev NoInit : Asked → Result Submission Refusal → Type 0
 NoInit a x = pick (is_init a) (is_done x) false ≡ false
 
-pub record AppliedKept (w : World) (mail : List ℕ) (a : Asked) (x : SubmitAnswer) (u : World) : Type 0 where
+pub record AppliedKept (w : World) (mail : List ℕ) (a : Asked) (x : Result Submission Refusal) (u : World) : Type 0 where
   pub refusal : refused_submit x ≡ true → u ≡ w
   pub stored : NoInit a x → u.memory ≡ w.memory
   pub counted : NoInit a x → (u.hca.logs ≡ w.hca.logs) × (u.hca.store_len ≡ w.hca.store_len)
@@ -67,7 +67,7 @@ set_other row k j s e = ap (λ (x : Slot). x.status) (get_or-set_other row k j s
 
 -- ---- nothing changes
 
-same_kept : (w : World) (mail : List ℕ) (a : Asked) (x : SubmitAnswer)
+same_kept : (w : World) (mail : List ℕ) (a : Asked) (x : Result Submission Refusal)
     → ((q : Arguments) (front : List ℕ) (k : ℕ) → submit_note mail a x ≡ accepted (on_record q front) k → ⊥) → AppliedKept w mail a x w
 same_kept w mail a x n = record {
   refusal = λ _. refl;
@@ -133,7 +133,7 @@ module _ (w : World) (mail : List ℕ) (q : Request) (k : ℕ) (g : Judging w q 
             ∙ ap (λ (f : List ℕ). splice 0 f (room_of k w.room)) y ∙ ap (λ (n : ℕ). splice 0 front (room_of n w.room)) i;
       }
 
-  take_kept : AppliedKept w mail (asks_request (arguments_of q)) (submit.Accepted k) (world_taken w q mail k)
+  take_kept : AppliedKept w mail (asks_request (arguments_of q)) (Ok (submit.Accepted k)) (world_taken w q mail k)
   unfolding world_taken
   take_kept = record {
     refusal = λ e. absurd (false≢true e);
@@ -150,8 +150,8 @@ module _ (w : World) (mail : List ℕ) (q : Request) (k : ℕ) (g : Judging w q 
 -- ---- an initialisation
 
 open_kept : (w : World) (mail : List ℕ) (a : Asked) (g : Logs) → is_init a ≡ true → Fits g w.memory
-    → ((q : Arguments) (front : List ℕ) (k : ℕ) → submit_note mail a submit.Done ≡ accepted (on_record q front) k → ⊥)
-    → AppliedKept w mail a submit.Done (world_opened w g)
+    → ((q : Arguments) (front : List ℕ) (k : ℕ) → submit_note mail a (Ok submit.Done) ≡ accepted (on_record q front) k → ⊥)
+    → AppliedKept w mail a (Ok submit.Done) (world_opened w g)
 unfolding world_opened
 open_kept w mail a g i f n = record {
   refusal = λ e. absurd (false≢true e);
@@ -165,7 +165,7 @@ open_kept w mail a g i f n = record {
   taken = λ q front k e. absurd (n q front k e);
 }
 
-close_kept : (w : World) (mail : List ℕ) → AppliedKept w mail asks_close submit.Done (world_closed w)
+close_kept : (w : World) (mail : List ℕ) → AppliedKept w mail asks_close (Ok submit.Done) (world_closed w)
 unfolding world_closed
 close_kept w mail = record {
   refusal = λ e. absurd (false≢true e);
@@ -188,16 +188,16 @@ denied_note q mail n r front k e = let z : ◌≡◌ {A = ℕ} 0 1 = cc in omega
 finished_note : (f : Fed) (b : List ℕ) (r : Arguments) (front : List ℕ) (k : ℕ) → finished f b ≡ accepted (on_record r front) k → ⊥
 finished_note f b r front k e = let z : ◌≡◌ {A = ℕ} 0 1 = cc in omega arith
 
-pub applied_kept : (w : World) (mail : List ℕ) (a : Asked) (d : Decision) → Decided w mail a d
+pub applied_kept : (w : World) (mail : List ℕ) (a : Asked) (d : Result Decision Refusal) → Decided w mail a d
     → AppliedKept w mail a (applied w mail d).answer (applied w mail d).world
 applied_kept w mail a d (plain {a = x} c e) =
-    same_kept w mail x (submit.Refused c) (λ q front k g. not_accepted _ (on_record q front) k (quiet mail x c e) g)
+    same_kept w mail x (Err c) (λ q front k g. not_accepted _ (on_record q front) k (quiet mail x c e) g)
 applied_kept w mail a d (denied {q = q} {d = y} g e) =
     same_kept w mail (asks_request (arguments_of q)) _
     (λ r front k f. denied_note (arguments_of q) mail _ r front k (denied_noted mail (arguments_of q) y ∙ f))
 applied_kept w mail a d (misnamed {n = n} g) = same_kept w mail (asks_request (read_joined n)) _ (denied_note (read_joined n) mail _)
 applied_kept w mail a d (takes {q = q} {k = k} g e f) = take_kept w mail q k g (lowest_free_is w.row k f)
 applied_kept w mail a d (closes o n) = close_kept w mail
-applied_kept w mail a d rests = same_kept w mail asks_nop submit.Done (finished_note nop [])
+applied_kept w mail a d rests = same_kept w mail asks_nop (Ok submit.Done) (finished_note nop [])
 applied_kept w mail a d (opens {g = g} p o e) =
     open_kept w mail _ g refl (init_fits mail _ g e) (λ q front k f. not_accepted nothing (on_record q front) k refl f)

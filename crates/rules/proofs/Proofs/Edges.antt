@@ -1,6 +1,6 @@
 -- DEMAND 2 is proved. A request is judged when it is accepted; from then until its first burst its record is held, so what the record
 -- permitted then it permits still (`Judged`).
-use Rattle.std.specs.Prelude.{◌≡◌, Bool, true, false, List, [], ◌∷◌, ◌++◌, ◌⊎◌, ℕ, zero, suc, ◌+◌, ◌*◌, ◌/◌, ◌≤◌, ◌<◌, ltb, length, get_or, set, take, drop}
+use Rattle.std.specs.Prelude.{◌≡◌, Bool, true, false, List, [], ◌∷◌, ◌++◌, ◌⊎◌, ℕ, zero, suc, ◌+◌, ◌*◌, ◌/◌, ◌≤◌, ◌<◌, ltb, length, get_or, set, take, drop, Result, Ok}
 use Rattle.std.proofs.Math.Path.{refl}
 use Rattle.std.proofs.Common.{sym, ◌∙◌, ap, ap₂, subst, true≢false, inl, inr, arith, take-append-drop, get_or-set_same, get_or-set_other}
 use Rattle.std.proofs.lemmas.Bool.{false≢true}
@@ -30,7 +30,6 @@ use Rattle.burst_table.proofs.Laws.{bursts_fit, bursts_later, total_bursts}
 use Rattle.checks.specs.Fields.{state_of, service_of}
 use Rattle.checks.specs.Permission.{permission_of}
 use Rattle.checks.proofs.PermissionLaws.{permission_holds}
-use Rattle.checks.specs.declared.Verdict.TheVariants.{Permitted}
 use Rattle.byte_rule.specs.Bytes.{byte_of}
 use Rattle.bursts.specs.Bursts.{burst}
 use Rattle.bursts.proofs.Bursts.{burst_out}
@@ -42,7 +41,6 @@ use Rattle.slots.specs.declared.Slot.{Slot}
 use Rattle.slots.specs.declared.Status.{Status}
 use Rattle.slots.specs.declared.Status.TheVariants.{Free, Running}
 use Rattle.possible.proofs.Laws.{writer_alone}
-use Rattle.rules.specs.declared.Decision.{Decision}
 use Rattle.rules.specs.World.{World, status_at, bad_state}
 use Rattle.rules.specs.Admission.{world_taken, world_closed, applied}
 use Rattle.rules.specs.Commands.{decide_command, submit_command}
@@ -66,12 +64,14 @@ use Rattle.rules.proofs.Proofs.Events.{no_init, number_no_init}
 use Rattle.rules.proofs.Proofs.Frame.{records, counts}
 use Rattle.rules.proofs.Proofs.Lists.{Roomy, LentAs, leaves, only_nop, goes, lent_call, roomy_after, stops_begins, begins_stops}
 use Rattle.rules.proofs.Proofs.Serial.{start_roomy, start_free}
+use Rattle.rules.specs.declared.Decision.{Decision}
+use Rattle.rules.specs.declared.Refusal.{Refusal}
 use Rattle.engines.specs.Engines.{read_number}
 
 -- every running writer that has moved no burst is permitted by its record as it stands
 Judged : World → Type 0
 Judged w =
-    (k : ℕ) (q : Request) → status_at k w.row ≡ Running 0 q → writes_of q ≡ true → permission_in w.hca.logs w.memory q ≡ Permitted
+    (k : ℕ) (q : Request) → status_at k w.row ≡ Running 0 q → writes_of q ≡ true → permission_in w.hca.logs w.memory q ≡ Ok tt
 
 -- a slot of a row with one slot set: that slot, or as it was
 slot_cases : (row : List Slot) (k j : ℕ) (s : Slot)
@@ -90,7 +90,7 @@ slot_cases row k j s = go (ℕ_discrete j k) (dec_lt k (length row))
 
 -- the same record in the same memory
 judged_memory : (w u : World) → u.hca.logs ≡ w.hca.logs → u.memory ≡ w.memory → (q : Request)
-    → permission_in w.hca.logs w.memory q ≡ Permitted → permission_in u.hca.logs u.memory q ≡ Permitted
+    → permission_in w.hca.logs w.memory q ≡ Ok tt → permission_in u.hca.logs u.memory q ≡ Ok tt
 judged_memory w u e f q p =
     ap (λ (g : Logs). permission_in g u.memory q) e ∙ ap (λ (m : Memory). permission_in w.hca.logs m q) f ∙ p
 
@@ -105,22 +105,22 @@ judged_free w u k i e f r j q s wr = go (slot_cases w.row k j (slot Free))
 
     go : (status_at j (set w.row k (slot Free)) ≡ Free)
         ⊎ ((status_at j (set w.row k (slot Free)) ≡ status_at j w.row) × ((j ≡ k → ⊥) ⊎ (length w.row ≤ k)))
-        → permission_in u.hca.logs u.memory q ≡ Permitted
+        → permission_in u.hca.logs u.memory q ≡ Ok tt
     go (inl x) = let c : Free ≡ Running 0 q = sym x ∙ now in let z : ◌≡◌ {A = ℕ} 0 1 = cc in absurd (omega arith)
     go (inr x) = judged_memory w u e f q (i j q (sym x.0 ∙ now) wr)
 
-judged_taken : (w : World) (q : Request) (mail : List ℕ) (k : ℕ) → Judged w → permission_in w.hca.logs w.memory q ≡ Permitted
+judged_taken : (w : World) (q : Request) (mail : List ℕ) (k : ℕ) → Judged w → permission_in w.hca.logs w.memory q ≡ Ok tt
     → Judged (world_taken w q mail k)
 unfolding Judged world_taken
 judged_taken w q mail k i p j r s wr = go (slot_cases w.row k j (slot (Running 0 q)))
   where
     go : (status_at j (set w.row k (slot (Running 0 q))) ≡ Running 0 q)
         ⊎ ((status_at j (set w.row k (slot (Running 0 q))) ≡ status_at j w.row) × ((j ≡ k → ⊥) ⊎ (length w.row ≤ k)))
-        → permission_in w.hca.logs w.memory r ≡ Permitted
+        → permission_in w.hca.logs w.memory r ≡ Ok tt
     go (inl x) =
         let c : Running 0 q ≡ Running 0 r = sym x ∙ s in
         let e : q ≡ r = cc in
-        subst (λ (y : Request). permission_in w.hca.logs w.memory y ≡ Permitted) e p
+        subst (λ (y : Request). permission_in w.hca.logs w.memory y ≡ Ok tt) e p
     go (inr x) = i j r (sym x.0 ∙ s) wr
 
 -- ---- every call keeps it
@@ -129,7 +129,7 @@ judged_same : (w u : World) → u.hca.logs ≡ w.hca.logs → u.memory ≡ w.mem
 unfolding Judged
 judged_same w u e f r i k q s wr = judged_memory w u e f q (i k q (ap (status_at k) (sym r) ∙ s) wr)
 
-applied_judged : (w : World) (mail : List ℕ) (a : Asked) (d : Decision) → Judged w → Decided w mail a d
+applied_judged : (w : World) (mail : List ℕ) (a : Asked) (d : Result Decision Refusal) → Judged w → Decided w mail a d
     → pick (is_init a) (is_done (applied w mail d).answer) false ≡ false → Judged (applied w mail d).world
 unfolding world_closed
 applied_judged w mail a d i (plain c e) n = i
@@ -173,18 +173,18 @@ module _ (w : World) (k : ℕ) (q : Request) (m : ℕ) (s : Stepping w k q m) wh
       next = advanced_is w.row k (Running m q) s.now
 
       stays_judged : status_at j w.row ≡ Running 0 r → ¬ (j ≡ k)
-          → permission_of r (record_in w.hca.logs (world_moved w k q m).memory (record_of r)) ≡ Permitted
+          → permission_of r (record_in w.hca.logs (world_moved w k q m).memory (record_of r)) ≡ Ok tt
       stays_judged f d = ap (permission_of r) (record_kept j r d f) ∙ i j r f wr
 
       go : (status_at j (set w.row k (advanced (get_or w.row k (slot Free)))) ≡ (advanced (get_or w.row k (slot Free))).status)
           ⊎ ((status_at j (set w.row k (advanced (get_or w.row k (slot Free)))) ≡ status_at j w.row) ×
           ((j ≡ k → ⊥) ⊎ (length w.row ≤ k)))
-          → permission_of r (record_in w.hca.logs (world_moved w k q m).memory (record_of r)) ≡ Permitted
+          → permission_of r (record_in w.hca.logs (world_moved w k q m).memory (record_of r)) ≡ Ok tt
       go (inl x) = absurd (never_first r (sym next ∙ sym x ∙ e))
       go (inr x) = apart x.1
         where
           apart : (j ≡ k → ⊥) ⊎ (length w.row ≤ k)
-              → permission_of r (record_in w.hca.logs (world_moved w k q m).memory (record_of r)) ≡ Permitted
+              → permission_of r (record_in w.hca.logs (world_moved w k q m).memory (record_of r)) ≡ Ok tt
           apart (inl d) = stays_judged (sym x.0 ∙ e) d
           apart (inr h) = absurd (omega (arith, step_slot w k q m s, (step_sized w k q m s).rowed))
 
@@ -227,7 +227,7 @@ run_ready w J (c ∷ cs) i =
 
 -- the first burst sets the state
 first_along : (q : Request) (n : QpNumber) (mail before : List ℕ) → burst_size ≤ length before → record_of q ≡ rec.Qp n → writes_of q ≡ true
-    → permission_of q before ≡ Permitted
+    → permission_of q before ≡ Ok tt
     → Along q (state_of before) (service_of before) (state_of (burst (byte_of q mail) (get_or (bursts_of q) 0 0) before))
 unfolding state_of
 first_along (request.Command (command.Sw2Hw (owned.Mpt x))) n mail before l y wr p = let z : ◌≡◌ {A = ℕ} 0 1 = cc in absurd (omega arith)

@@ -1,5 +1,5 @@
 -- Every call but one that begins a list, or a reset that answers 0, is an event.
-use Rattle.std.specs.Prelude.{◌≡◌, Bool, true, false, ℕ, ◌+◌, ◌<◌, length}
+use Rattle.std.specs.Prelude.{◌≡◌, Bool, true, false, ℕ, ◌+◌, ◌<◌, length, Option, Some, None, Ok}
 use Rattle.std.proofs.Math.Path.{refl, ap, subst}
 use Rattle.std.proofs.Common.{sym, ◌∙◌, true≢false, arith, get_or-set_same}
 use mathlib.Core.List.{List, []}
@@ -11,10 +11,9 @@ use Rattle.words.specs.Parts.{part, splice}
 use Rattle.words.proofs.Parts.{part_splice}
 use Rattle.requests.specs.declared.Request.{Request}
 use Rattle.engines.specs.Engines.{read_number, read_engine}
-use Rattle.engines.specs.declared.EngineFound.{EngineFound}
-use Rattle.engines.specs.declared.EngineFound.TheVariants as engine
-use Rattle.engines.specs.declared.NumberFound.{NumberFound}
-use Rattle.engines.specs.declared.NumberFound.TheVariants as number
+use Rattle.engines.specs.declared.EngineAsked.{EngineAsked}
+use Rattle.engines.specs.declared.EngineNumber.{EngineNumber}
+use Rattle.engines.specs.declared.EngineAsked.TheVariants as asked
 use Rattle.request_table.specs.Records.{writes_of}
 use Rattle.burst_table.specs.Bursts.{total_of}
 use Rattle.burst_table.specs.Sizes.{slot_count}
@@ -28,7 +27,6 @@ use Rattle.slots.specs.declared.Slot.{Slot}
 use Rattle.slots.specs.declared.Status.TheVariants.{Free, Finished}
 use Rattle.serial.specs.Slots.{collect as collecting}
 use Rattle.serial.proofs.Told.{silence, out as emptied}
-use Rattle.rules.specs.declared.CollectAnswer.TheVariants as collect
 use Rattle.rules.specs.World.{World, status_at}
 use Rattle.rules.specs.Commands.{decide_command, submit_command}
 use Rattle.rules.specs.Engines.{decide_engine, submit_engine}
@@ -85,7 +83,7 @@ module _ (w : World) (k : ℕ) (out : List ℕ) (q : Request) (c : Collecting w 
       ap (λ (n : ℕ). take n (splice 0 (answer_at w k q) out)) (sym answer_long)
       ∙ part_splice 0 (answer_at w k q) out (omega (arith, answer_long, ltb-false (length out) (answer_size q) c.enough))
 
-  freed_ok : Fine w (world_freed w k) (note_for (collect_note k (splice 0 (answer_at w k q) out) (collect.Collected (answer_size q))))
+  freed_ok : Fine w (world_freed w k) (note_for (collect_note k (splice 0 (answer_at w k q) out) (Ok (answer_size q))))
   unfolding answer_at status_at world_freed
   freed_ok =
       subst (λ (a : List ℕ). Fine w (world_freed w k) (emptied k a)) (sym wrote)
@@ -118,14 +116,14 @@ reset_ok w =
 pub no_init : (a : Asked) (b : Bool) → is_init a ≡ false → pick (is_init a) b false ≡ false
 no_init a b e = rw e
 
-found_no_init : (f : EngineFound) → is_init (engine_found_asked f) ≡ false
-found_no_init (engine.OnRecord e) = refl
-found_no_init (engine.Joined n) = refl
-found_no_init engine.Wrong = refl
+found_no_init : (f : Option EngineAsked) → is_init (engine_found_asked f) ≡ false
+found_no_init (Some (asked.OnRecord e)) = refl
+found_no_init (Some (asked.Joined n)) = refl
+found_no_init None = refl
 
-pub number_no_init : (w : World) (index psn code : ℕ) (f : NumberFound) → is_init (number_asked w.hca.logs index psn code f) ≡ false
-number_no_init w index psn code (number.Served k) = found_no_init (read_engine w.hca.logs k index psn code)
-number_no_init w index psn code number.NotServed = refl
+pub number_no_init : (w : World) (index psn code : ℕ) (f : Option EngineNumber) → is_init (number_asked w.hca.logs index psn code f) ≡ false
+number_no_init w index psn code (Some k) = found_no_init (read_engine w.hca.logs k index psn code)
+number_no_init w index psn code None = refl
 
 pub call_ok : (w : World) (c : Call) → stops w c ≡ false → Fine w (world_after w c) (note_for (note_of w.hca.logs c (answer_to w c)))
 unfolding initialises submit_command submit_engine

@@ -1,5 +1,5 @@
 -- The frame is proved: of a submission by what is applied (Applied), of a step by its burst (Moved), of the other calls by computation.
-use Rattle.std.specs.Prelude.{◌≡◌, Bool, List, [], ℕ, ◌+◌, ◌-◌, ◌/◌, ◌≤◌, ◌<◌, ltb, length, get_or}
+use Rattle.std.specs.Prelude.{◌≡◌, Bool, List, [], ℕ, ◌+◌, ◌-◌, ◌/◌, ◌≤◌, ◌<◌, ltb, length, get_or, Result, Ok, Err}
 use Rattle.std.proofs.Math.Path.{refl, ap}
 use Rattle.std.proofs.Common.{sym, ◌∙◌, ap₂, true≢false, arith, ltb-false, ltb-true, length-set, get_or-set_same}
 use Rattle.std.proofs.Math.Bool.{true, false}
@@ -28,11 +28,6 @@ use Rattle.slots.specs.declared.Status.{Status}
 use Rattle.slots.specs.declared.Status.TheVariants.{Free, Running, Finished}
 use Rattle.rows.specs.Rows.{any_slot, empty_row}
 use Rattle.rows.proofs.Laws.{none_occupied}
-use Rattle.rules.specs.declared.StepAnswer.{StepAnswer}
-use Rattle.rules.specs.declared.StepAnswer.TheVariants as stepping
-use Rattle.rules.specs.declared.CollectAnswer.{CollectAnswer}
-use Rattle.rules.specs.declared.CollectAnswer.TheVariants as collecting
-use Rattle.rules.specs.declared.SubmitAnswer.{SubmitAnswer}
 use Rattle.rules.specs.World.{World, status_at}
 use Rattle.rules.specs.Commands.{decide_command, submit_command}
 use Rattle.rules.specs.Engines.{decide_engine, submit_engine}
@@ -54,6 +49,8 @@ use Rattle.rules.proofs.Proofs.Moved.{step_fits, step_runs, slot_moved_lem, writ
 use Rattle.rules.proofs.Proofs.Moved.{other_stays, outside_stays, behind_stays, room_stays, moved_store, moved_room}
 use Rattle.rules.proofs.Proofs.Events.{collect_sized, collect_slot, answer_long, no_init, number_no_init}
 use Rattle.rules.proofs.Proofs.Applied.{SizesKept, AppliedKept, not_same, set_other, applied_kept}
+use Rattle.rules.specs.declared.Refusal.{Refusal}
+use Rattle.rules.specs.declared.Submission.{Submission}
 use Rattle.engines.specs.Engines.{read_number}
 
 -- ---- submissions
@@ -72,7 +69,7 @@ engine_kept w n index psn code =
     applied_kept w [] (engine_asked w.hca.logs n index psn code) (decide_engine w n index psn code) (engine_decided w n index psn code)
 
 -- an engine request is no initialisation
-engine_plain : (w : World) (n index psn code : ℕ) (x : SubmitAnswer)
+engine_plain : (w : World) (n index psn code : ℕ) (x : Result Submission Refusal)
     → pick (is_init (engine_asked w.hca.logs n index psn code)) (is_done x) false ≡ false
 engine_plain w n index psn code x =
     no_init (engine_asked w.hca.logs n index psn code) (is_done x) (number_no_init w index psn code (read_number n))
@@ -100,13 +97,13 @@ same_running : (q r : Request) (m n : ℕ) → Running m q ≡ Running n r → (
 same_running q r m n e P p = let f : q ≡ r = cc in let g : m ≡ n = cc in rw (f, g) p
 
 -- what a step that is not refused answers and makes, of the request that runs in its slot
-step_makes : (w : World) (k : ℕ) (q : Request) (m : ℕ) → status_at k w.row ≡ Running m q → (P : StepAnswer → World → Type 0)
-    → ((s : Stepping w k q m) → P (stepping.Left (left_of (slot_moved w k))) (world_moved w k q m))
+step_makes : (w : World) (k : ℕ) (q : Request) (m : ℕ) → status_at k w.row ≡ Running m q → (P : Result ℕ Refusal → World → Type 0)
+    → ((s : Stepping w k q m) → P (Ok (left_of (slot_moved w k))) (world_moved w k q m))
     → refused_step (step_of w k).answer ≡ false → P (step_of w k).answer (step_of w k).world
 step_makes w k q m now P moves =
     step_is w k (λ (s : Stepped). refused_step s.answer ≡ false → P s.answer s.world) (λ _ f. absurd (true≢false f))
     (λ r n s _. same_running r q n m (sym s.now ∙ now)
-    (λ (x : Request) (y : ℕ). Stepping w k x y → P (stepping.Left (left_of (slot_moved w k))) (world_moved w k x y)) (λ t. moves t) s)
+    (λ (x : Request) (y : ℕ). Stepping w k x y → P (Ok (left_of (slot_moved w k))) (world_moved w k x y)) (λ t. moves t) s)
 
 -- the bursts left of a request that has moved one burst more
 left_after : (q : Request) (m : ℕ) → left_status (pick (ltb (m + 1) (total_of q)) (Running (m + 1) q) (Finished (total_of q) q))
@@ -122,14 +119,14 @@ left_moved w k q m now = ap (λ (s : Status). left_status (advanced_status s)) n
 pub steps : Steps
 steps w k q m now e =
     step_makes w k q m now
-    (λ (a : StepAnswer) (u : World). (a ≡ stepping.Left (total_of q - (m + 1)))
+    (λ (a : Result ℕ Refusal) (u : World). (a ≡ Ok (total_of q - (m + 1)))
     × (status_at k u.row ≡ pick (ltb (m + 1) (total_of q)) (Running (m + 1) q) (Finished (total_of q) q)))
-    (λ s. (ap stepping.Left (left_moved w k q m now), slot_moved_lem w k q m s)) e
+    (λ s. (ap Ok (left_moved w k q m now), slot_moved_lem w k q m s)) e
 
 pub written : Written
 written w k q m now e wr =
     step_makes w k q m now
-    (λ (a : StepAnswer) (u : World). (record_in w.hca.logs u.memory (record_of q)
+    (λ (a : Result ℕ Refusal) (u : World). (record_in w.hca.logs u.memory (record_of q)
     ≡ burst (byte_of q (front_of k q w.room)) (get_or (bursts_of q) m 0) (record_in w.hca.logs w.memory (record_of q)))
     × (u.room ≡ w.room))
     (λ s. (write_own w k q m s wr, write_room w k q m s wr)) e
@@ -137,7 +134,7 @@ written w k q m now e wr =
 pub copied : Copied
 copied w k q m now e rd =
     step_makes w k q m now
-    (λ (a : StepAnswer) (u : World). (room_of k u.room
+    (λ (a : Result ℕ Refusal) (u : World). (room_of k u.room
     ≡ copy (get_or (bursts_of q) m 0) (joined_in w.hca.logs w.memory (records_of q)) (room_of k w.room))
     × (u.memory ≡ w.memory))
     (λ s. (read_own_lem w k q m s rd, read_memory w k q m s rd)) e
@@ -149,10 +146,10 @@ unfolding world_freed status_at
 collects w k out q m now =
     collect_is w k out
     (λ (c : Collected). refused_collect c.answer ≡ false
-    → (c.answer ≡ collecting.Collected (answer_size q)) × (status_at k c.world.row ≡ Free) × (c.out ≡ splice 0 (answer_at w k q) out))
+    → (c.answer ≡ Ok (answer_size q)) × (status_at k c.world.row ≡ Free) × (c.out ≡ splice 0 (answer_at w k q) out))
     (λ _ f. absurd (true≢false f))
     (λ r c _. let f : r ≡ q = same r c in (
-      ap (λ (x : Request). collecting.Collected (answer_size x)) f,
+      ap (λ (x : Request). Ok (answer_size x)) f,
       ap (λ (s : Slot). s.status)
           (get_or-set_same w.row k (slot Free) (slot Free) (omega (arith, (collect_sized w k out r c).rowed, collect_slot w k out r c))),
       ap (λ (x : Request). splice 0 (answer_at w k x) out) f,
@@ -283,10 +280,10 @@ emptied w resetting e =
 
 -- ---- a request that is accepted
 
-not_collected : (r : Arguments) (front : List ℕ) (k j : ℕ) (out : List ℕ) (a : CollectAnswer)
+not_collected : (r : Arguments) (front : List ℕ) (k j : ℕ) (out : List ℕ) (a : Result ℕ Refusal)
     → collect_note j out a ≡ accepted (on_record r front) k → ⊥
-not_collected r front k j out (collecting.Collected n) e = let z : ◌≡◌ {A = ℕ} 0 1 = cc in omega arith
-not_collected r front k j out (collecting.Refused c) e = let z : ◌≡◌ {A = ℕ} 0 1 = cc in omega arith
+not_collected r front k j out (Ok n) e = let z : ◌≡◌ {A = ℕ} 0 1 = cc in omega arith
+not_collected r front k j out (Err c) e = let z : ◌≡◌ {A = ℕ} 0 1 = cc in omega arith
 
 not_nothing : (r : Arguments) (front : List ℕ) (k : ℕ) → nothing ≡ accepted (on_record r front) k → ⊥
 not_nothing r front k e = let z : ◌≡◌ {A = ℕ} 0 1 = cc in omega arith

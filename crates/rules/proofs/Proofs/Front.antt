@@ -2,7 +2,7 @@
 -- on the room behind its eight parts.
 use Rattle.std.proofs.Math.Path.{◌≡◌, refl, sym, ap, ap₂}
 use Rattle.std.proofs.Common.{◌∙◌, le-ltb, length-append}
-use Rattle.std.specs.Prelude.{Bool, true, false, not, ℕ, ◌+◌, ◌≤◌, ◌<◌, ltb, length, get_or, set}
+use Rattle.std.specs.Prelude.{Bool, true, false, not, ℕ, ◌+◌, ◌≤◌, ◌<◌, ltb, length, get_or, set, Option, Some, None, Result, Ok, Err}
 use mathlib.Core.List.{List, [], ◌++◌}
 use native.Mathlib.Omega.{arith}
 use Rattle.words.specs.Choice.{pick, both, either}
@@ -12,28 +12,23 @@ use Rattle.words.proofs.Tails.{part_left}
 use Rattle.hcr.specs.Register.{read_of}
 use Rattle.hcr.proofs.Within.{read_left}
 use Rattle.hcr.specs.declared.HcrCommand.{HcrCommand}
-use Rattle.hcr.specs.declared.ReadAnswer.{ReadAnswer}
-use Rattle.hcr.specs.declared.ReadAnswer.TheVariants as hcr
+use Rattle.hcr.specs.declared.ReadError.{ReadError}
+use Rattle.hcr.specs.declared.ReadError.TheVariants as readError
 use Rattle.context.proofs.Counts.{init_left}
 use Rattle.context.specs.declared.CqNumber.{CqNumber}
 use Rattle.context.specs.declared.QpNumber.{QpNumber}
 use Rattle.context.specs.declared.Record.TheVariants as rec
-use Rattle.numbers.specs.declared.CqFound.{CqFound}
-use Rattle.numbers.specs.declared.CqFound.TheVariants as cqFound
-use Rattle.numbers.specs.declared.EqFound.{EqFound}
-use Rattle.numbers.specs.declared.EqFound.TheVariants as eqFound
+use Rattle.context.specs.declared.EqNumber.{EqNumber}
 use Rattle.requests.specs.declared.Request.{Request}
 use Rattle.requests.specs.declared.Request.TheVariants as request
 use Rattle.commands.specs.Commands.{read_op, read_command}
-use Rattle.commands.specs.declared.CommandFound.{CommandFound}
-use Rattle.commands.specs.declared.CommandFound.TheVariants as found
-use Rattle.commands.specs.declared.OpFound.{OpFound}
-use Rattle.commands.specs.declared.OpFound.TheVariants as opFound
+use Rattle.commands.specs.declared.CommandAsked.{CommandAsked}
+use Rattle.commands.specs.declared.Op.{Op}
+use Rattle.commands.specs.declared.CommandAsked.TheVariants as asked
 use Rattle.engines.specs.Engines.{read_number, read_engine}
-use Rattle.engines.specs.declared.EngineFound.{EngineFound}
-use Rattle.engines.specs.declared.EngineFound.TheVariants as engine
-use Rattle.engines.specs.declared.NumberFound.{NumberFound}
-use Rattle.engines.specs.declared.NumberFound.TheVariants as number
+use Rattle.engines.specs.declared.EngineAsked.{EngineAsked}
+use Rattle.engines.specs.declared.EngineNumber.{EngineNumber}
+use Rattle.engines.specs.declared.EngineAsked.TheVariants as engineAsked
 use Rattle.request_table.specs.Records.{writes_of}
 use Rattle.mailboxes.specs.Mailboxes.{need_of}
 use Rattle.burst_table.specs.Bursts.{offset_of}
@@ -41,8 +36,6 @@ use Rattle.burst_table.specs.Sizes.{slot_count, slot_room, room_size}
 use Rattle.burst_table.proofs.Laws.{need_small}
 use Rattle.contents.specs.Content.{content_holds}
 use Rattle.contents.proofs.Front.{content_front}
-use Rattle.checks.specs.declared.Verdict.{Verdict}
-use Rattle.checks.specs.declared.Verdict.TheVariants.{Permitted, Denied}
 use Rattle.answers.specs.Answers.{answer_of, answer_size}
 use Rattle.bursts.specs.Room.{room_of, front_of, room_filled, room_copied}
 use Rattle.bursts.proofs.Room.{room_tail, front_tail, copied_tail, filled_tail}
@@ -52,12 +45,7 @@ use Rattle.slots.specs.declared.Status.{Status}
 use Rattle.slots.specs.declared.Status.TheVariants.{Free, Running, Finished}
 use Rattle.holds.specs.Holds.{held_against, read_held}
 use Rattle.rows.proofs.Laws.{Lowest, lowest_free_is}
-use Rattle.rules.specs.declared.Decision.{Decision}
-use Rattle.rules.specs.declared.Decision.TheVariants as decide
 use Rattle.rules.specs.declared.Refusal.TheVariants as cause
-use Rattle.rules.specs.declared.StepAnswer.TheVariants as stepping
-use Rattle.rules.specs.declared.CollectAnswer.TheVariants as collecting
-use Rattle.rules.specs.declared.ResetAnswer.TheVariants as reset
 use Rattle.rules.specs.World.{World, with_room, store_length, status_at, bad_row, bad_store, bad_lent, bad_state}
 use Rattle.rules.specs.Admission.{Submitted, submitted, world_opened, world_closed, world_taken}
 use Rattle.rules.specs.Admission.{applied, decide_place, decide_verdict, decide_request}
@@ -76,6 +64,10 @@ use Rattle.rules.proofs.Laws.Decided.{command_decided, engine_decided}
 use Rattle.rules.specs.Laws.Outcomes.{Stepping}
 use Rattle.rules.proofs.Laws.Outcomes.{running_open}
 use Rattle.rules.proofs.Proofs.Moved.{step_sized, step_slot, in_part}
+use Rattle.rules.specs.declared.Decision.{Decision}
+use Rattle.rules.specs.declared.Refusal.{Refusal}
+use Rattle.rules.specs.declared.Decision.TheVariants as decide
+use Rattle.checks.specs.declared.Denial.{Denial}
 
 -- a choice that a function goes through
 pick_through : {A B : Type 0} (f : A → B) (b : Bool) (x y : A) (x' y' : B) → (b ≡ true → x' ≡ f x) → (b ≡ false → y' ≡ f y)
@@ -94,38 +86,38 @@ module _ (w : World) (mail t : List ℕ) where
   unfolding decide_request
   request_front q h = rw (short_same (need_of q) mail t h, content_front q mail t h)
 
-  found_front : (f : CommandFound) → needed_by (found_asked f) ≤ length mail → decide_found w (mail ++ t) f ≡ decide_found w mail f
+  found_front : (f : Option CommandAsked) → needed_by (found_asked f) ≤ length mail → decide_found w (mail ++ t) f ≡ decide_found w mail f
   unfolding decide_found
-  found_front found.InitHca h = ap decide_init (init_left mail t (store_length w) h)
-  found_front found.CloseHca h = refl
-  found_front found.Nop h = refl
-  found_front (found.OnRecord c) h = request_front (request.Command c) h
-  found_front found.Wrong h = refl
+  found_front (Some asked.InitHca) h = ap decide_init (init_left mail t (store_length w) h)
+  found_front (Some asked.CloseHca) h = refl
+  found_front (Some asked.Nop) h = refl
+  found_front (Some (asked.OnRecord c)) h = request_front (request.Command c) h
+  found_front None h = refl
 
-  op_front : (c : HcrCommand) (f : OpFound) → needed_by (op_asked w.hca.logs c f) ≤ length mail
+  op_front : (c : HcrCommand) (f : Option Op) → needed_by (op_asked w.hca.logs c f) ≤ length mail
       → decide_op w (mail ++ t) c f ≡ decide_op w mail c f
   unfolding decide_op
-  op_front c opFound.NotServed h = refl
-  op_front c (opFound.Served o) h =
-      ap (λ (d : Decision). pick (bad_system w.hca.«open» o) (decide.Refuse cause.BadSystemState)
-      (pick (busy w.row o) (decide.Refuse cause.Busy) d))
+  op_front c None h = refl
+  op_front c (Some o) h =
+      ap (λ (d : Result Decision Refusal). pick (bad_system w.hca.«open» o) (Err cause.BadSystemState)
+      (pick (busy w.row o) (Err cause.Busy) d))
       (found_front (read_command w.hca.logs o c.op_modifier c.in_modifier) h)
 
-  register_mail : (r : ReadAnswer) → needed_by (register_asked w.hca.logs r) ≤ length mail
+  register_mail : (r : Result HcrCommand ReadError) → needed_by (register_asked w.hca.logs r) ≤ length mail
       → decide_register w (mail ++ t) r ≡ decide_register w mail r
   unfolding decide_register
-  register_mail hcr.Short h = refl
-  register_mail hcr.Malformed h = refl
-  register_mail (hcr.Command c) h = ap (pick c.event (decide.Refuse cause.Malformed)) (op_front c (read_op c.op) h)
+  register_mail (Err readError.Short) h = refl
+  register_mail (Err readError.Malformed) h = refl
+  register_mail (Ok c) h = ap (pick c.event (Err cause.Malformed)) (op_front c (read_op c.op) h)
 
   -- what is taken from the mailbox
-  applied_front : (a : Asked) (d : Decision) → Decided w mail a d → applied w (mail ++ t) d ≡ applied w mail d
+  applied_front : (a : Asked) (d : Result Decision Refusal) → Decided w mail a d → applied w (mail ++ t) d ≡ applied w mail d
   unfolding world_taken
   applied_front a d (plain c e) = refl
   applied_front a d (denied g e) = refl
   applied_front a d (misnamed g) = refl
   applied_front a d (takes {q = q} {k = k} g e f) =
-      ap (λ (ys : List ℕ). submitted (applied w mail (decide.Take q k)).answer
+      ap (λ (ys : List ℕ). submitted (applied w mail (Ok (decide.Take q k))).answer
       (with_room (world_taken w q mail k) (room_filled k ys w.room)))
       (part_left 0 (need_of q) mail t (omega (arith, g.enough)))
   applied_front a d (closes o n) = refl
@@ -136,8 +128,8 @@ pub mailbox_front : MailboxFront
 unfolding submit_command decide_command
 mailbox_front w bytes mail t h =
     ap (applied w (mail ++ t))
-    (ap (λ (d : Decision). pick (either (bad_lent w) (ltb (length bytes) 28)) (decide.Refuse cause.BadLength)
-    (pick (bad_state w) (decide.Refuse cause.Impossible) d)) (register_mail w mail t (read_of bytes) h))
+    (ap (λ (d : Result Decision Refusal). pick (either (bad_lent w) (ltb (length bytes) 28)) (Err cause.BadLength)
+    (pick (bad_state w) (Err cause.Impossible) d)) (register_mail w mail t (read_of bytes) h))
     ∙ applied_front w mail t (command_asked w.hca.logs bytes) (decide_command w bytes mail) (command_decided w bytes mail)
 
 -- ---- the register
@@ -161,88 +153,88 @@ module _ (w : World) (t : List ℕ) (roomed : room_size ≤ length w.room) where
   lent_same = rw (short_same room_size w.room t roomed)
 
   -- what decides does not look at the room
-  verdict_same : (q : Request) (x : Verdict) → decide_verdict v q x ≡ decide_verdict w q x
+  verdict_same : (q : Request) (x : Result (Unit {0}) Denial) → decide_verdict v q x ≡ decide_verdict w q x
   unfolding decide_verdict
-  verdict_same q Permitted = refl
-  verdict_same q (Denied d) = refl
+  verdict_same q (Ok tt) = refl
+  verdict_same q (Err d) = refl
 
   request_same : (q : Request) (mail : List ℕ) → decide_request v q mail ≡ decide_request w q mail
   unfolding decide_request
   request_same q mail =
-      ap (λ (d : Decision). pick (ltb (length mail) (need_of q)) (decide.Refuse cause.ShortMailbox)
-      (pick (not (content_holds q mail)) (decide.Refuse cause.BadContent)
-      (pick (held_against w.row q) (decide.Refuse cause.Held) d)))
+      ap (λ (d : Result Decision Refusal). pick (ltb (length mail) (need_of q)) (Err cause.ShortMailbox)
+      (pick (not (content_holds q mail)) (Err cause.BadContent)
+      (pick (held_against w.row q) (Err cause.Held) d)))
       (verdict_same q (permission_in w.hca.logs w.memory q))
 
-  found_same : (mail : List ℕ) (f : CommandFound) → decide_found v mail f ≡ decide_found w mail f
+  found_same : (mail : List ℕ) (f : Option CommandAsked) → decide_found v mail f ≡ decide_found w mail f
   unfolding decide_found
-  found_same mail found.InitHca = refl
-  found_same mail found.CloseHca = refl
-  found_same mail found.Nop = refl
-  found_same mail (found.OnRecord c) = request_same (request.Command c) mail
-  found_same mail found.Wrong = refl
+  found_same mail (Some asked.InitHca) = refl
+  found_same mail (Some asked.CloseHca) = refl
+  found_same mail (Some asked.Nop) = refl
+  found_same mail (Some (asked.OnRecord c)) = request_same (request.Command c) mail
+  found_same mail None = refl
 
-  op_same : (mail : List ℕ) (c : HcrCommand) (f : OpFound) → decide_op v mail c f ≡ decide_op w mail c f
+  op_same : (mail : List ℕ) (c : HcrCommand) (f : Option Op) → decide_op v mail c f ≡ decide_op w mail c f
   unfolding decide_op
-  op_same mail c opFound.NotServed = refl
-  op_same mail c (opFound.Served o) =
-      ap (λ (d : Decision). pick (bad_system w.hca.«open» o) (decide.Refuse cause.BadSystemState)
-      (pick (busy w.row o) (decide.Refuse cause.Busy) d))
+  op_same mail c None = refl
+  op_same mail c (Some o) =
+      ap (λ (d : Result Decision Refusal). pick (bad_system w.hca.«open» o) (Err cause.BadSystemState)
+      (pick (busy w.row o) (Err cause.Busy) d))
       (found_same mail (read_command w.hca.logs o c.op_modifier c.in_modifier))
 
-  register_same : (mail : List ℕ) (r : ReadAnswer) → decide_register v mail r ≡ decide_register w mail r
+  register_same : (mail : List ℕ) (r : Result HcrCommand ReadError) → decide_register v mail r ≡ decide_register w mail r
   unfolding decide_register
-  register_same mail hcr.Short = refl
-  register_same mail hcr.Malformed = refl
-  register_same mail (hcr.Command c) = ap (pick c.event (decide.Refuse cause.Malformed)) (op_same mail c (read_op c.op))
+  register_same mail (Err readError.Short) = refl
+  register_same mail (Err readError.Malformed) = refl
+  register_same mail (Ok c) = ap (pick c.event (Err cause.Malformed)) (op_same mail c (read_op c.op))
 
   command_same : (bytes mail : List ℕ) → decide_command v bytes mail ≡ decide_command w bytes mail
   unfolding decide_command bad_state
   command_same bytes mail =
-      ap₂ (λ (b : Bool) (d : Decision). pick (either b (ltb (length bytes) 28)) (decide.Refuse cause.BadLength)
-      (pick (bad_state w) (decide.Refuse cause.Impossible) d)) lent_same (register_same mail (read_of bytes))
+      ap₂ (λ (b : Bool) (d : Result Decision Refusal). pick (either b (ltb (length bytes) 28)) (Err cause.BadLength)
+      (pick (bad_state w) (Err cause.Impossible) d)) lent_same (register_same mail (read_of bytes))
 
-  eq_same : (n : QpNumber) (c : CqNumber) (x : EqFound) → decide_eq v n c x ≡ decide_eq w n c x
+  eq_same : (n : QpNumber) (c : CqNumber) (x : Option EqNumber) → decide_eq v n c x ≡ decide_eq w n c x
   unfolding decide_eq
-  eq_same n c (eqFound.Number e) = refl
-  eq_same n c eqFound.OutOfRange = refl
+  eq_same n c (Some e) = refl
+  eq_same n c None = refl
 
-  cq_same : (n : QpNumber) (x : CqFound) → decide_cq v n x ≡ decide_cq w n x
+  cq_same : (n : QpNumber) (x : Option CqNumber) → decide_cq v n x ≡ decide_cq w n x
   unfolding decide_cq
-  cq_same n (cqFound.Number c) = ap (pick (read_held w.row (rec.Cq c)) (decide.Refuse cause.Held)) (eq_same n c _)
-  cq_same n cqFound.OutOfRange = refl
+  cq_same n (Some c) = ap (pick (read_held w.row (rec.Cq c)) (Err cause.Held)) (eq_same n c _)
+  cq_same n None = refl
 
   joined_same : (n : QpNumber) → decide_joined v n ≡ decide_joined w n
   unfolding decide_joined
-  joined_same n = ap (pick (read_held w.row (rec.Qp n)) (decide.Refuse cause.Held)) (cq_same n _)
+  joined_same n = ap (pick (read_held w.row (rec.Qp n)) (Err cause.Held)) (cq_same n _)
 
-  asked_same : (f : EngineFound) → decide_asked v f ≡ decide_asked w f
+  asked_same : (f : Option EngineAsked) → decide_asked v f ≡ decide_asked w f
   unfolding decide_asked
-  asked_same (engine.OnRecord e) = request_same (request.Engine e) []
-  asked_same (engine.Joined n) = joined_same n
-  asked_same engine.Wrong = refl
+  asked_same (Some (engineAsked.OnRecord e)) = request_same (request.Engine e) []
+  asked_same (Some (engineAsked.Joined n)) = joined_same n
+  asked_same None = refl
 
-  number_same : (index psn code : ℕ) (f : NumberFound) → decide_number v index psn code f ≡ decide_number w index psn code f
+  number_same : (index psn code : ℕ) (f : Option EngineNumber) → decide_number v index psn code f ≡ decide_number w index psn code f
   unfolding decide_number
-  number_same index psn code number.NotServed = refl
-  number_same index psn code (number.Served k) =
-      ap (pick (not w.hca.«open») (decide.Refuse cause.BadSystemState)) (asked_same (read_engine w.hca.logs k index psn code))
+  number_same index psn code None = refl
+  number_same index psn code (Some k) =
+      ap (pick (not w.hca.«open») (Err cause.BadSystemState)) (asked_same (read_engine w.hca.logs k index psn code))
 
   engine_same : (n index psn code : ℕ) → decide_engine v n index psn code ≡ decide_engine w n index psn code
   unfolding decide_engine bad_state
   engine_same n index psn code =
-      ap₂ (λ (b : Bool) (d : Decision). pick b (decide.Refuse cause.BadLength) (pick (bad_state w) (decide.Refuse cause.Impossible) d))
+      ap₂ (λ (b : Bool) (d : Result Decision Refusal). pick b (Err cause.BadLength) (pick (bad_state w) (Err cause.Impossible) d))
       lent_same (number_same index psn code (read_number n))
 
   -- what is applied leaves the tail
-  applied_tail : (mail : List ℕ) (a : Asked) (d : Decision) → Decided w mail a d
+  applied_tail : (mail : List ℕ) (a : Asked) (d : Result Decision Refusal) → Decided w mail a d
       → applied v mail d ≡ submitted (applied w mail d).answer (tailed (applied w mail d).world)
   unfolding world_taken world_closed world_opened
   applied_tail mail a d (plain c e) = refl
   applied_tail mail a d (denied g e) = refl
   applied_tail mail a d (misnamed g) = refl
   applied_tail mail a d (takes {q = q} {k = k} g e f) =
-      ap (λ (r : List ℕ). submitted (applied w mail (decide.Take q k)).answer (with_room (world_taken w q mail k) r))
+      ap (λ (r : List ℕ). submitted (applied w mail (Ok (decide.Take q k))).answer (with_room (world_taken w q mail k) r))
       (filled_tail k (part 0 (need_of q) mail) w.room below roomed fits t)
     where
       below : k < slot_count
@@ -298,7 +290,7 @@ module _ (w : World) (t : List ℕ) (roomed : room_size ≤ length w.room) where
   unfolding step_on slot_moved
   step_on_tail l p k Free e = refl
   step_on_tail l p k (Running m q) e =
-      ap (stepped (stepping.Left (left_of (slot_moved w k))))
+      ap (stepped (Ok (left_of (slot_moved w k))))
       (moved_tail k q m (record { lent = l; possible = p; opened = running_open w p k q m e w.hca.«open» refl; now = e }))
   step_on_tail l p k (Finished m q) e = refl
 
@@ -322,7 +314,7 @@ module _ (w : World) (t : List ℕ) (roomed : room_size ≤ length w.room) where
   collect_on_tail l k out (Running m q) e = refl
   collect_on_tail l k out (Finished m q) e =
       pick_through collect_tailed (ltb (length out) (answer_size q)) _ _ _ _ (λ _. refl)
-      (λ _. ap (λ (r : List ℕ). collected (collecting.Collected (answer_size q)) (tailed (world_freed w k)) (splice 0 (answer_of q r) out))
+      (λ _. ap (λ (r : List ℕ). collected (Ok (answer_size q)) (tailed (world_freed w k)) (splice 0 (answer_of q r) out))
       (room_tail k w.room (in_row w (lent_sized w l) k occupied) roomed t))
     where
       occupied : ¬ (status_at k w.row ≡ Free)
@@ -346,8 +338,8 @@ module _ (w : World) (t : List ℕ) (roomed : room_size ≤ length w.room) where
   reset_tail : reset_of v ≡ reset_tailed (reset_of w)
   unfolding reset_of
   reset_tail =
-      ap (λ (b : Bool). pick b (resetted (reset.Refused cause.BadLength) v) (resetted reset.Done (world_reset v))) row_same
-      ∙ pick_through reset_tailed (bad_row w) (resetted (reset.Refused cause.BadLength) w) (resetted reset.Done (world_reset w)) _ _
+      ap (λ (b : Bool). pick b (resetted (Err cause.BadLength) v) (resetted (Ok tt) (world_reset v))) row_same
+      ∙ pick_through reset_tailed (bad_row w) (resetted (Err cause.BadLength) w) (resetted (Ok tt) (world_reset w)) _ _
       (λ _. refl) (λ _. refl)
 
 pub room_front : RoomFront

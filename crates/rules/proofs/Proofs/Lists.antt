@@ -1,6 +1,6 @@
 -- A call of a list, whatever it is lent: it leaves everything, as one that is refused for its lengths does, or NOP; or it does to the
 -- memory that it has to be lent (`proper`) what it does when it is lent just that.
-use Rattle.std.specs.Prelude.{◌≡◌, refl, Bool, true, false, ◌⊎◌, ℕ, ◌+◌, ◌≤◌, ltb, take}
+use Rattle.std.specs.Prelude.{◌≡◌, refl, Bool, true, false, ◌⊎◌, ℕ, ◌+◌, ◌≤◌, ltb, take, Result, Err}
 use Rattle.std.proofs.Math.Path.{sym, ap}
 use Rattle.std.proofs.Common.{◌∙◌, ap₂, true≢false, inl, inr, arith, length-drop, take-append-drop, take-take}
 use Rattle.std.proofs.lemmas.Bool.{false≢true}
@@ -14,12 +14,7 @@ use Rattle.burst_table.specs.Sizes.{slot_count, room_size}
 use Rattle.records.specs.Memory.{memory}
 use Rattle.slots.specs.declared.Slot.{Slot}
 use Rattle.slots.specs.declared.Status.TheVariants.{Free, Finished}
-use Rattle.rules.specs.declared.Decision.{Decision}
-use Rattle.rules.specs.declared.Decision.TheVariants as decide
 use Rattle.rules.specs.declared.Refusal.TheVariants as cause
-use Rattle.rules.specs.declared.SubmitAnswer.{SubmitAnswer}
-use Rattle.rules.specs.declared.SubmitAnswer.TheVariants as submit
-use Rattle.rules.specs.declared.ResetAnswer.{ResetAnswer}
 use Rattle.rules.specs.World.{World, with_room, store_length, status_at, bad_row, bad_lent}
 use Rattle.rules.specs.Admission.{Submitted, applied}
 use Rattle.rules.specs.Commands.{decide_command, submit_command}
@@ -41,6 +36,9 @@ use Rattle.rules.proofs.Proofs.Admitted.{quiet}
 use Rattle.rules.proofs.Proofs.Events.{no_init, number_no_init}
 use Rattle.rules.proofs.Proofs.Frame.{sizes, counts}
 use Rattle.rules.proofs.Proofs.Front.{room_front}
+use Rattle.rules.specs.declared.Decision.{Decision}
+use Rattle.rules.specs.declared.Refusal.{Refusal}
+use Rattle.rules.specs.declared.Submission.{Submission}
 use Rattle.engines.specs.Engines.{read_number}
 
 -- ---- what is there to be lent
@@ -74,11 +72,11 @@ back_long n xs ys e =
 Ignored : World → Call → Type 0
 Ignored w c = (world_after w c ≡ w) × (note_of w.hca.logs c (answer_to w c) ≡ nothing)
 
-submit_left_lem : (w : World) (mail : List ℕ) (a : Asked) (d : Decision) → d ≡ decide.Refuse cause.BadLength
+submit_left_lem : (w : World) (mail : List ℕ) (a : Asked) (d : Result Decision Refusal) → d ≡ Err cause.BadLength
     → ((applied w mail d).world ≡ w) × (submit_note mail a (applied w mail d).answer ≡ nothing)
 submit_left_lem w mail a d e = (
-  ap (λ (x : Decision). (applied w mail x).world) e,
-  ap (λ (x : Decision). submit_note mail a (applied w mail x).answer) e ∙ sym (quiet mail a cause.BadLength refl),
+  ap (λ (x : Result Decision Refusal). (applied w mail x).world) e,
+  ap (λ (x : Result Decision Refusal). submit_note mail a (applied w mail x).answer) e ∙ sym (quiet mail a cause.BadLength refl),
 )
 
 step_short : (w : World) (k : ℕ) → bad_lent w ≡ true → step_of w k ≡ step_refused w cause.BadLength
@@ -113,7 +111,7 @@ AtMostNop w c =
 shut_open : (w : World) {A : Type 0} → w.hca.«open» ≡ false → w.hca.«open» ≡ true → A
 shut_open w o p = absurd (false≢true (sym o ∙ p))
 
-applied_shut : (w : World) (mail : List ℕ) (a : Asked) (d : Decision) → w.hca.«open» ≡ false → Decided w mail a d
+applied_shut : (w : World) (mail : List ℕ) (a : Asked) (d : Result Decision Refusal) → w.hca.«open» ≡ false → Decided w mail a d
     → pick (is_init a) (is_done (applied w mail d).answer) false ≡ false
     → ((applied w mail d).world ≡ w)
     × ((submit_note mail a (applied w mail d).answer ≡ nothing) ⊎ (submit_note mail a (applied w mail d).answer ≡ finished nop []))
@@ -210,16 +208,16 @@ module _ (w : World) (l : Lent) (r : Roomy w) (o : w.hca.«open» ≡ true) (e :
 -- ---- every call
 
 -- the tests of a list's end, by the answer
-same_submit : (x y : SubmitAnswer) → submitted x ≡ submitted y → x ≡ y
+same_submit : (x y : Result Submission Refusal) → submitted x ≡ submitted y → x ≡ y
 same_submit x y e = cc
 
-same_reset : (x y : ResetAnswer) → reset_done x ≡ reset_done y → x ≡ y
+same_reset : (x y : Result (Unit {0}) Refusal) → reset_done x ≡ reset_done y → x ≡ y
 same_reset x y e = cc
 
 stops_same : (v u : World) (c : Call) → v.hca.logs ≡ u.hca.logs → answer_to v c ≡ answer_to u c → stops v c ≡ stops u c
 unfolding initialises
 stops_same v u (command bytes mail) g e =
-    ap₂ (λ h (x : SubmitAnswer). pick (is_init (command_asked h bytes)) (is_done x) false) g (same_submit _ _ e)
+    ap₂ (λ h (x : Result Submission Refusal). pick (is_init (command_asked h bytes)) (is_done x) false) g (same_submit _ _ e)
 stops_same v u (engine_request n index psn code) g e = refl
 stops_same v u (step k) g e = refl
 stops_same v u (collection k out) g e = refl

@@ -1,6 +1,6 @@
 -- What a call leaves that begins a list: the adapter is open, no slot is occupied, every record is zero, and what was lent is as long as
 -- it has to be.
-use Rattle.std.specs.Prelude.{◌≡◌, refl, Bool, true, false, List, [], ℕ, replicate}
+use Rattle.std.specs.Prelude.{◌≡◌, refl, Bool, true, false, List, [], ℕ, replicate, Result}
 use Rattle.std.proofs.Common.{ap}
 use Rattle.std.proofs.lemmas.Bool.{false≢true}
 use Rattle.words.specs.Choice.{pick}
@@ -10,7 +10,6 @@ use Rattle.context.specs.declared.Record.{Record}
 use Rattle.records.specs.Memory.{record_in, Fits}
 use Rattle.records.specs.Laws.{zeroed_record, length_zeroed, fits_zeroed}
 use Rattle.slots.specs.declared.Status.TheVariants.{Free}
-use Rattle.rules.specs.declared.Decision.{Decision}
 use Rattle.rules.specs.World.{World, store_length, status_at}
 use Rattle.rules.specs.Admission.{world_opened, applied}
 use Rattle.rules.specs.Commands.{decide_command, submit_command}
@@ -19,6 +18,8 @@ use Rattle.rules.specs.Calls.{Asked, command_asked, is_done, is_init, initialise
 use Rattle.rules.proofs.Laws.Lent.{Sized, lent_sized, closed_free}
 use Rattle.rules.specs.Laws.Decided.{Decided, plain, denied, takes, closes, rests, opens, misnamed}
 use Rattle.rules.proofs.Laws.Decided.{command_decided}
+use Rattle.rules.specs.declared.Decision.{Decision}
+use Rattle.rules.specs.declared.Refusal.{Refusal}
 
 pub record Started (w : World) : Type 0 where
   pub opened : w.hca.«open» ≡ true
@@ -32,7 +33,7 @@ no_done : (b : Bool) {A : Type 0} → pick b false false ≡ true → A
 no_done true e = absurd (false≢true e)
 no_done false e = absurd (false≢true e)
 
-applied_started : (w : World) (mail : List ℕ) (a : Asked) (d : Decision) → Decided w mail a d
+applied_started : (w : World) (mail : List ℕ) (a : Asked) (d : Result Decision Refusal) → Decided w mail a d
     → pick (is_init a) (is_done (applied w mail d).answer) false ≡ true → Started (applied w mail d).world
 unfolding world_opened
 applied_started w mail a d (plain {a = x} c e) i = no_done (is_init x) i

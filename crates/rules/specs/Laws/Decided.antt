@@ -1,9 +1,8 @@
 -- What a submission decides: the chain of its tests is followed once, into one type that has all that is known at each end.
-use Rattle.std.specs.Prelude.{◌≡◌, true, false, not, ℕ, ◌≤◌, length}
+use Rattle.std.specs.Prelude.{◌≡◌, true, false, not, ℕ, ◌≤◌, length, Some, Result, Ok, Err}
 use mathlib.Core.List.{List}
 use Rattle.context.specs.Layout.{is_record, count_of}
 use Rattle.context.specs.Init.{init_of}
-use Rattle.context.specs.declared.InitFound.TheVariants as init
 use Rattle.context.specs.declared.Kind.TheVariants as kind
 use Rattle.context.specs.declared.Logs.{Logs}
 use Rattle.context.specs.declared.QpNumber.{QpNumber}
@@ -15,14 +14,10 @@ use Rattle.mailboxes.specs.Mailboxes.{need_of}
 use Rattle.contents.specs.Content.{content_holds}
 use Rattle.checks.specs.declared.Denial.{Denial}
 use Rattle.checks.specs.declared.Denial.TheVariants as denial
-use Rattle.checks.specs.declared.Verdict.TheVariants.{Permitted, Denied}
 use Rattle.records.specs.Memory.{record_in, permission_in}
 use Rattle.slots.specs.Slots.{is_occupied}
 use Rattle.rows.specs.Rows.{any_slot, lowest_free}
 use Rattle.holds.specs.Holds.{held_against, read_held}
-use Rattle.rows.specs.declared.SlotFound.TheVariants.{At, Nothing}
-use Rattle.rules.specs.declared.Decision.{Decision}
-use Rattle.rules.specs.declared.Decision.TheVariants as decide
 use Rattle.rules.specs.declared.Refusal.{Refusal}
 use Rattle.rules.specs.declared.Refusal.TheVariants as cause
 use Rattle.rules.specs.Numbers.{for_state}
@@ -30,6 +25,8 @@ use Rattle.rules.specs.World.{World, store_length, bad_lent, bad_state}
 use Rattle.rules.specs.Names.{arguments_of, read_joined}
 use Rattle.rules.specs.Calls.{Asked, asks_init, asks_close, asks_nop, asks_request}
 use Rattle.rules.specs.Laws.Named.{fits, Lost, trail_of, misses}
+use Rattle.rules.specs.declared.Decision.{Decision}
+use Rattle.rules.specs.declared.Decision.TheVariants as decide
 
 -- what is known of a submission that comes past the first two rows
 pub record Passing (w : World) : Type 0 where
@@ -71,15 +68,15 @@ pub record Missing (w : World) (n : QpNumber) (t : Lost) : Type 0 where
 
 -- what is decided, of what is asked: a refusal that is not for the record's state, or one that is; a request that takes a slot; a command
 -- that is done at once
-pub data Decided (w : World) (mail : List ℕ) : Asked → Decision → Type 0 where
-  plain : {a : Asked} (c : Refusal) → for_state c ≡ false → Decided w mail a (decide.Refuse c)
-  denied : {q : Request} {d : Denial} → Judging w q mail → permission_in w.hca.logs w.memory q ≡ Denied d
-      → Decided w mail (asks_request (arguments_of q)) (decide.Refuse (cause.Denied d))
+pub data Decided (w : World) (mail : List ℕ) : Asked → Result Decision Refusal → Type 0 where
+  plain : {a : Asked} (c : Refusal) → for_state c ≡ false → Decided w mail a (Err c)
+  denied : {q : Request} {d : Denial} → Judging w q mail → permission_in w.hca.logs w.memory q ≡ Err d
+      → Decided w mail (asks_request (arguments_of q)) (Err (cause.Denied d))
   misnamed : {n : QpNumber} {t : Lost} → Missing w n t
-      → Decided w mail (asks_request (read_joined n)) (decide.Refuse (cause.Denied denial.Name))
-  takes : {q : Request} {k : ℕ} → Judging w q mail → permission_in w.hca.logs w.memory q ≡ Permitted → lowest_free 0 w.row ≡ At k
-      → Decided w mail (asks_request (arguments_of q)) (decide.Take q k)
-  closes : w.hca.«open» ≡ true → any_slot is_occupied w.row ≡ false → Decided w mail asks_close decide.Close
-  rests : Decided w mail asks_nop decide.Nothing
-  opens : {g : Logs} → Passing w → w.hca.«open» ≡ false → init_of mail (store_length w) ≡ init.Layout g
-      → Decided w mail asks_init (decide.Open g)
+      → Decided w mail (asks_request (read_joined n)) (Err (cause.Denied denial.Name))
+  takes : {q : Request} {k : ℕ} → Judging w q mail → permission_in w.hca.logs w.memory q ≡ Ok tt → lowest_free 0 w.row ≡ Some k
+      → Decided w mail (asks_request (arguments_of q)) (Ok (decide.Take q k))
+  closes : w.hca.«open» ≡ true → any_slot is_occupied w.row ≡ false → Decided w mail asks_close (Ok decide.Close)
+  rests : Decided w mail asks_nop (Ok decide.Nothing)
+  opens : {g : Logs} → Passing w → w.hca.«open» ≡ false → init_of mail (store_length w) ≡ Ok g
+      → Decided w mail asks_init (Ok (decide.Open g))

@@ -7,9 +7,9 @@ pub returns-then-same : goal.returns-then-same
 unfolding count_of
 returns-then-same c = search (cases, not-true, not-false) depth 12
 
-pub returns-then-word-eq0 : goal.returns-then-word-eq0
+pub returns-then-is_empty : goal.returns-then-is_empty
 unfolding count_of
-returns-then-word-eq0 c = search (cases, not-true, not-false) depth 12
+returns-then-is_empty c = search (cases, not-true, not-false) depth 12
 
 pub returns-then-word-ne0 : goal.returns-then-word-ne0
 unfolding count_of

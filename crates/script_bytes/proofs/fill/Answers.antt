@@ -7,7 +7,7 @@ pub loop-i-init : goal.loop-i-init
 loop-i-init c = search (rules, none_map_first)
 
 pub loop-i-preserved : goal.loop-i-preserved
-loop-i-preserved c = (search rules, search (rules, step_first))
+loop-i-preserved c = search (rules, step_first)
 
 pub returns : goal.returns
 returns c = search (rules, done_map_first)

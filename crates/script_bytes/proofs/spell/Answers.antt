@@ -7,7 +7,7 @@ pub loop-j-init : goal.loop-j-init
 loop-j-init c = search (rules, none_map_first)
 
 pub loop-j-preserved : goal.loop-j-preserved
-loop-j-preserved c = (search rules, search (rules, step_first))
+loop-j-preserved c = search (rules, step_first)
 
 pub returns : goal.returns
 returns c = search (rules, done_map_first)

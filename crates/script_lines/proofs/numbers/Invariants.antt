@@ -3,7 +3,4 @@ use Rattle.script_lines.specs.Lines.{numbers_from, numbers_of}
 use Rattle.script_lines.proofs.numbers.Given as goal
 
 abbrev pub invariant-loop-i : goal.invariant-loop-i
-invariant-loop-i l = (l.i ≤ l.count) × (l.count ≤ 8) × (l.from ≤ l.words) × (l.words - l.from ≡ l.count) × (numbers_from (l.count - l.i) l.line (l.from + l.i) l.i l.at ≡ numbers_of l.line l.from l.count)
-
-abbrev pub decreases-loop-i : goal.decreases-loop-i
-decreases-loop-i l = l.count - l.i
+invariant-loop-i l = (l.count ≤ 8) × (l.from ≤ l.words) × (l.words - l.from ≡ l.count) × (numbers_from (l.count - l.i) l.line (l.from + l.i) l.i l.numbers ≡ numbers_of l.line l.from l.count)

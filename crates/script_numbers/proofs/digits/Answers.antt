@@ -1,25 +1,32 @@
-use Rattle.script_numbers.specs.Turns.{digits_start, digits_none, digits_other, digits_above, digits_more, digits_end}
-use borrow.Author.Rules.{rules}
+use Rattle.std.proofs.Common.{sym, ◌∙◌, arith, rules}
+use Rattle.script_numbers.specs.Turns.{digits_start, digits_empty, digits_none, digits_other, digits_above, digits_more, digits_end}
 use Rattle.script_numbers.proofs.digits.Goals as goal
 
-pub returns-then-text-eq0 : goal.returns-then-text-eq0
-returns-then-text-eq0 c = search (rules, digits_none)
+pub returns-then-is_empty : goal.returns-then-is_empty
+returns-then-is_empty c = search (rules, digits_empty)
 
-pub loop-i-init : goal.loop-i-init
-loop-i-init c = (search rules, search (rules, digits_start))
+pub loop-character-init : goal.loop-character-init
+loop-character-init c = search (rules, digits_start)
+
+pub returns-in_err-digit : goal.returns-in_err-digit
+returns-in_err-digit c =
+    c.from_residual.ensures
+    ∙ digits_none _ _ _ _ _ _ c.loop-character-test.true (sym c.digit.ensures ∙ c.in_err-digit.was) c.loop-character.invariant
 
 pub returns-then-base-digit : goal.returns-then-base-digit
-returns-then-base-digit c = search (rules, digits_other)
+returns-then-base-digit c =
+    digits_other _ _ _ _ _ _ _ c.loop-character-test.true (sym c.digit.ensures ∙ c.in_ok-digit.was)
+    c.if-base-digit.true c.loop-character.invariant
 
-pub returns-then-most-next : goal.returns-then-most-next
-returns-then-most-next c = search (rules, digits_above)
+pub returns-then-from-next : goal.returns-then-from-next
+returns-then-from-next c =
+    digits_above _ _ _ _ _ _ _ _ c.loop-character-test.true (sym c.digit.ensures ∙ c.in_ok-digit.was)
+    c.if-base-digit.false c.extended-next.ensures (omega (arith, c.from.ensures, c.if-from-next.true)) c.loop-character.invariant
 
-pub loop-i-preserved : goal.loop-i-preserved
-loop-i-preserved c = (
-  search rules,
-  digits_more _ _ _ _ _ _ _ _ c.loop-i-test.true c.digit-digit.ensures c.if-base-digit.false c.extended-next.ensures
-      c.if-most-next.false c.loop-i.invariant.1,
-)
+pub loop-character-preserved : goal.loop-character-preserved
+loop-character-preserved c =
+    digits_more _ _ _ _ _ _ _ _ c.loop-character-test.true (sym c.digit.ensures ∙ c.in_ok-digit.was)
+    c.if-base-digit.false c.extended-next.ensures (omega (arith, c.from.ensures, c.if-from-next.false)) c.loop-character.invariant
 
 pub returns : goal.returns
 returns c = search (rules, digits_end)

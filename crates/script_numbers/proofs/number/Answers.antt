@@ -1,15 +1,8 @@
-use Rattle.script_numbers.specs.Turns.{hexadecimal_long, hexadecimal_read, decimal_read}
-use borrow.Author.Rules.{rules}
+use Rattle.script_numbers.specs.Turns.{hexadecimal_read, decimal_read}
 use Rattle.script_numbers.proofs.number.Goals as goal
 
-pub slice_bounds-digits-count : goal.slice_bounds-digits-count
-slice_bounds-digits-count c = search (rules, hexadecimal_long)
+pub returns-in-Some : goal.returns-in-Some
+returns-in-Some c = hexadecimal_read _ _ _ _ c.in-Some.ensures.cases.0 c.in-Some.ensures.cases.1 c.digits.ensures
 
-pub slice_bounds-digits-start : goal.slice_bounds-digits-start
-slice_bounds-digits-start c = search (rules, hexadecimal_long)
-
-pub returns-then-is_hexadecimal : goal.returns-then-is_hexadecimal
-returns-then-is_hexadecimal c = search (rules, hexadecimal_read)
-
-pub returns : goal.returns
-returns c = search (rules, decimal_read)
+pub returns-in-None : goal.returns-in-None
+returns-in-None c = decimal_read _ _ _ c.in-None.ensures.cases c.digits-in-None.ensures

@@ -1,17 +1,15 @@
-use Rattle.script_states.specs.Laws.{logs_read, state_read}
-use Rattle.script_states.specs.States.{state_in}
-use Rattle.words.proofs.Choice.{cases}
-use borrow.Author.Tests.{not-true, not-false}
+use Rattle.std.proofs.Common.{sym, ◌∙◌}
+use Rattle.script_states.specs.Laws.{no_numbers, not_open, no_logs, state_made}
 use Rattle.script_states.proofs.read_state.Goals as goal
 
-pub returns-then-not-read : goal.returns-then-not-read
-unfolding state_in
-returns-then-not-read c = state_read _ _ _ c.numbers-read.ensures (search (cases, not-true, not-false) depth 8)
+pub returns-in_err-read : goal.returns-in_err-read
+returns-in_err-read c = c.from_residual.ensures ∙ no_numbers _ (sym c.numbers.ensures ∙ c.in_err-read.was)
 
-pub returns-then-open-gt1 : goal.returns-then-open-gt1
-unfolding state_in
-returns-then-open-gt1 c = state_read _ _ _ c.numbers-read.ensures (search (cases, not-true, not-false) depth 10)
+pub returns-then-read-gt1 : goal.returns-then-read-gt1
+returns-then-read-gt1 c = not_open _ _ (sym c.numbers.ensures ∙ c.in_ok-read.was) c.if-read-gt1.true
+
+pub returns-in_err-logs : goal.returns-in_err-logs
+returns-in_err-logs c = c.from_residual-in_err-logs.ensures ∙ no_logs _ _ (sym c.numbers.ensures ∙ c.in_ok-read.was) c.if-read-gt1.false (sym c.logs_of.ensures ∙ c.in_err-logs.was)
 
 pub returns : goal.returns
-unfolding state_in
-returns c = state_read _ _ _ c.numbers-read.ensures (search (cases, not-true, not-false, logs_read) depth 12)
+returns c = state_made _ _ _ (sym c.numbers.ensures ∙ c.in_ok-read.was) c.if-read-gt1.false (sym c.logs_of.ensures ∙ c.in_ok-logs.was)

@@ -6,7 +6,7 @@ pub returns-then-left-eq0 : goal.returns-then-left-eq0
 returns-then-left-eq0 c = (search rules, search (rules, behind_found))
 
 pub loop-i-preserved : goal.loop-i-preserved
-loop-i-preserved c = (search rules, search (rules, behind_more))
+loop-i-preserved c = search (rules, behind_more)
 
 pub returns : goal.returns
 returns c = (search rules, search (rules, behind_end))

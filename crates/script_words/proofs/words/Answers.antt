@@ -1,9 +1,8 @@
-use Rattle.script_words.proofs.Turns.{spaces_more, spaces_end}
-use borrow.Author.Rules.{rules}
+use Rattle.std.proofs.Common.{rules, ◌≡◌, eqb, count_by}
+use Rattle.script_words.proofs.Turns.{spaces_counted}
 use Rattle.script_words.proofs.words.Goals as goal
 
-pub loop-i-preserved : goal.loop-i-preserved
-loop-i-preserved c = (search rules, search rules, search (rules, spaces_more))
-
 pub returns : goal.returns
-returns c = search (rules, spaces_end)
+returns c =
+    let counted : c.count.result ≡ count_by (λ x. eqb x 32) c.args.line.now = search rules in
+    rw (counted, spaces_counted c.args.line.now)

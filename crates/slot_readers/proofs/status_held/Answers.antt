@@ -1,5 +1,5 @@
 use Rattle.slot_readers.specs.Reading.{held_as_lem}
 use Rattle.slot_readers.proofs.status_held.Goals as goal
 
-pub returns-in-Request : goal.returns-in-Request
-returns-in-Request c = rw c.in-Request.is (held_as_lem _ _ _ _ c.held.ensures)
+pub returns-in-Some : goal.returns-in-Some
+returns-in-Some c = rw c.in-Some.is (held_as_lem _ _ _ _ c.held.ensures)

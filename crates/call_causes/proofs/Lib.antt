@@ -1,0 +1,2 @@
+-- The cause of an answer is that of each call.
+pub mod Each
