@@ -40,7 +40,7 @@ pub fn read_number(number: u32) -> Option<EngineNumber>
         5 => Some(EngineNumber::Write(PsnField::Expected)),
         6 => Some(EngineNumber::ReadAll),
         7 => Some(EngineNumber::ReadJoined),
-        _ => None,
+        _ => None, // 0, or above 7
     }
 }
 
@@ -55,7 +55,7 @@ fn read_state(code: u8) -> Option<State>
         4 => Some(State::Sqe),
         5 => Some(State::Sqd),
         6 => Some(State::Err),
-        _ => None,
+        _ => None, // above 6
     }
 }
 

@@ -53,6 +53,19 @@ pub const STATES: [State; 7] = [
     State::Err,
 ];
 
+// A state's code as document 01 lists it. What is expected of the model is made of this, and not of the model's own.
+pub fn code_of(state: State) -> u8 {
+    match state {
+        State::Reset => 0,
+        State::Init => 1,
+        State::Rtr => 2,
+        State::Rts => 3,
+        State::Sqe => 4,
+        State::Sqd => 5,
+        State::Err => 6,
+    }
+}
+
 // A state code, and the name of the state that has it; a code above 6 has none.
 pub fn print_code(rt: &impl Print, code: u8) -> io::Result<()> {
     print!(rt; "{code}")?;

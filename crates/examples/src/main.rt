@@ -9,7 +9,7 @@ ghost use Rattle.hcr.specs.Register.{read_answer_number};
 
 use context::{CqNumber, InitError, Logs, MptNumber, QpNumber, Record};
 use edges::{EdgeDenial, Move, State};
-use example_text::{check, check_number, print_compared};
+use example_text::{check, check_number, code_of, print_compared};
 use hcr::{HcrCommand, ReadError};
 use std::{fmt, io};
 
@@ -113,7 +113,7 @@ fn read_word(word: u32) -> Result<HcrCommand, ReadError> {
 
 // What an engine write gets that leaves the state `to`.
 fn engine_write(from: State, service: u8, to: State) -> Result<(), EdgeDenial> {
-    edges::judge(Move::Engine(to), u8::from(from), service)
+    edges::judge(Move::Engine(to), code_of(from), service)
 }
 
 fn check_answer(rt: &impl Print, label: &str, answer: impl Numbered, given: u64) -> io::Result<()> {

@@ -1,5 +1,6 @@
 // A call of an example as data: which operation it is of, and what is not as usual in it.
 use edges::State;
+use example_text::code_of;
 
 // What is not as usual in a call. The numbers are of bytes lent.
 #[derive(Clone, Copy, PartialEq, Eq)]
@@ -102,7 +103,7 @@ pub fn write_code(request: u32, index: u32, psn: u32, state: u8) -> Call {
 }
 
 pub fn write(request: u32, index: u32, psn: u32, state: State) -> Call {
-    write_code(request, index, psn, u8::from(state))
+    write_code(request, index, psn, code_of(state))
 }
 
 // An engine request that reads.

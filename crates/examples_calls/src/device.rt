@@ -244,7 +244,7 @@ impl Device {
 
     // Document 01's number for the last answer.
     pub fn number(&self) -> u8 {
-        numbers_returned::number(self.answer)
+        numbers_returned::submit_number(self.answer)
     }
 
     // The slot of the last acceptance.

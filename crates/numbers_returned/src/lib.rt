@@ -3,10 +3,10 @@
 
 ghost use Rattle.std.specs.Prelude.{◌≡◌};
 ghost use Rattle.checks.specs.Verdicts.{denial_number};
-ghost use Rattle.rules.specs.Numbers.{refusal_number, number_of};
+ghost use Rattle.rules.specs.Numbers.{refusal_number, number_of, submit_number, step_number, collect_number, reset_number};
 
 use checks::Denial;
-use rules::Refusal;
+use rules::{Refusal, Submission};
 
 // 0 means done or accepted.
 const DONE: u8 = 0;
@@ -52,4 +52,32 @@ pub fn number<T: Drop>(answer: Result<T, Refusal>) -> u8
         Ok(_) => DONE,
         Err(cause) => refusal_number(cause),
     }
+}
+
+#[tactic(auto, using(crate::proofs::Each::of_submit))]
+pub fn submit_number(answer: Result<Submission, Refusal>) -> u8
+    ensures { result ≡ submit_number answer }
+{
+    number::<Submission>(answer)
+}
+
+#[tactic(auto, using(crate::proofs::Each::of_step))]
+pub fn step_number(answer: Result<u8, Refusal>) -> u8
+    ensures { result ≡ step_number answer }
+{
+    number::<u8>(answer)
+}
+
+#[tactic(auto, using(crate::proofs::Each::of_collect))]
+pub fn collect_number(answer: Result<usize, Refusal>) -> u8
+    ensures { result ≡ collect_number answer }
+{
+    number::<usize>(answer)
+}
+
+#[tactic(auto, using(crate::proofs::Each::of_reset))]
+pub fn reset_number(answer: Result<(), Refusal>) -> u8
+    ensures { result ≡ reset_number answer }
+{
+    number::<()>(answer)
 }

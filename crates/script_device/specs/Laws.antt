@@ -16,9 +16,14 @@ pub count_other : (w s k : ℕ) → w ≡ s → (w ≡ k → ⊥) → eqb s k �
 count_other w s k e n = ne_eqb s k (λ (p : s ≡ k). n (e ∙ p))
 
 -- a slot from a word and the numbers of a line
-pub slot_read : (f : List ℕ → List ℕ → Option Slot) (w x n : List ℕ) (m o : Option (List ℕ)) (r : Option Slot) → w ≡ x → m ≡ o → m ≡ Some n
+pub slot_read : (f : List ℕ → Option (List ℕ) → Option Slot) (w x : List ℕ) (n m : Option (List ℕ)) (r : Option Slot) → w ≡ x → n ≡ m → r ≡ f w n
+    → r ≡ f x m
+slot_read f w x n m r p q k = k ∙ (λ j. f (p j) (q j))
+
+-- a line that has its numbers
+pub slot_some : (f : List ℕ → List ℕ → Option Slot) (w x n : List ℕ) (m o : Option (List ℕ)) (r : Option Slot) → w ≡ x → m ≡ o → m ≡ Some n
     → r ≡ f w n → r ≡ option_and_then (f x) o
-slot_read f w x n m o r p e q k = rw (sym e ∙ q, sym p) k
+slot_some f w x n m o r p e q k = rw (sym e ∙ q, sym p) k
 
 -- a line whose numbers are none
 pub slot_none : (f : List ℕ → Option Slot) (m o : Option (List ℕ)) → m ≡ o → m ≡ None → None ≡ option_and_then f o

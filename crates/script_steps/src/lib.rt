@@ -11,7 +11,7 @@ use std::io;
 const UNTOUCHED: u8 = 0xee;
 
 fn print_step(rt: &impl Print, answer: Result<u8, Refusal>) -> io::Result<()> {
-    let number = numbers_returned::number(answer);
+    let number = numbers_returned::step_number(answer);
     match answer {
         Ok(left) => println!(rt; "{number:#x} left {left}"),
         Err(_) => println!(rt; "{number:#x}"),
@@ -19,7 +19,7 @@ fn print_step(rt: &impl Print, answer: Result<u8, Refusal>) -> io::Result<()> {
 }
 
 fn print_collect(rt: &impl Print, answer: Result<usize, Refusal>, buffer: &[u8]) -> io::Result<()> {
-    let number = numbers_returned::number(answer);
+    let number = numbers_returned::collect_number(answer);
     match answer {
         Ok(length) => print!(rt; "{number:#x} {length} ")?,
         Err(_) => print!(rt; "{number:#x} ")?,
@@ -51,7 +51,7 @@ pub fn step(
     if session.answers {
         print_step(rt, done.answer)?;
     }
-    let why = call_causes::of_answer(done.answer);
+    let why = call_causes::of_step(done.answer);
     after_call(session, session.hca, done.row, why);
     Ok(())
 }
@@ -84,7 +84,7 @@ pub fn collect(
     if session.answers {
         print_collect(rt, done.answer, out)?;
     }
-    let why = call_causes::of_answer(done.answer);
+    let why = call_causes::of_collect(done.answer);
     after_call(session, session.hca, done.row, why);
     Ok(())
 }
@@ -112,10 +112,10 @@ pub fn reset(
     );
     let reply = done.answer;
     if session.answers {
-        let number = numbers_returned::number(reply.answer);
+        let number = numbers_returned::reset_number(reply.answer);
         println!(rt; "{number:#x}")?;
     }
-    let why = call_causes::of_answer(reply.answer);
+    let why = call_causes::of_reset(reply.answer);
     after_call(session, reply.hca, done.row, why);
     Ok(())
 }

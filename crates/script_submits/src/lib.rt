@@ -11,7 +11,7 @@ use script_words::{word, words};
 use std::io;
 
 fn print_submit(rt: &impl Print, answer: Result<Submission, Refusal>) -> io::Result<()> {
-    let number = numbers_returned::number(answer);
+    let number = numbers_returned::submit_number(answer);
     match answer {
         Ok(Submission::Accepted(k)) => println!(rt; "{number:#x} slot {k}"),
         _ => println!(rt; "{number:#x}"),
@@ -28,7 +28,7 @@ fn submitted(
     if session.answers {
         print_submit(rt, reply.answer)?;
     }
-    let why = call_causes::of_answer(reply.answer);
+    let why = call_causes::of_submit(reply.answer);
     after_call(session, reply.hca, done.row, why);
     Ok(())
 }

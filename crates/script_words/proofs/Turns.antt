@@ -3,7 +3,7 @@ use Rattle.std.specs.Prelude.{◌≡◌, refl, Bool, true, false, not, cond, ◌
 use Rattle.std.specs.List.{position_or_len, position}
 use Rattle.std.specs.Option.{unwrap_or}
 use Rattle.std.specs.Cmp.Lexicographic.{pointwise}
-use Rattle.std.proofs.Common.{sym, ◌∙◌, add-one, arith, length-drop, take_all, ltb-false, drop_of_length-le, drop-cons}
+use Rattle.std.proofs.Common.{sym, ◌∙◌, ap, add-one, arith, length-drop, take_all, ltb-false, drop_of_length-le, drop-cons}
 use Rattle.std.proofs.lemmas.List.Sums.{sum_by-cons, prefix_len-le-length}
 use Rattle.words.specs.Choice.{pick}
 use Rattle.script_words.specs.Words.{one, spaces, behind, first_length, word_at, same_word}
@@ -99,6 +99,18 @@ same_compared (x ∷ xs) (y ∷ ys) = both_same (eqb x y) _ _ (same_compared xs 
 
 pub same_told : (a b : List ℕ) (r : Bool) → r ≡ pointwise eqb a b → r ≡ same_word a b
 same_told a b r e = e ∙ same_compared a b
+
+either_way : (b r : Bool) → false ≡ r → false ≡ pick b r false
+either_way true r e = e
+either_way false r e = refl
+
+-- words of other lengths differ
+pub same_lengths : (a b : List ℕ) → (length a ≡ length b → ⊥) → false ≡ same_word a b
+unfolding same_word
+same_lengths [] [] n = absurd (n refl)
+same_lengths [] (y ∷ ys) n = refl
+same_lengths (x ∷ xs) [] n = refl
+same_lengths (x ∷ xs) (y ∷ ys) n = either_way (eqb x y) (same_word xs ys) (same_lengths xs ys (λ e. n (ap suc e)))
 
 -- ---- the word between its start and its end
 

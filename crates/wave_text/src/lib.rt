@@ -49,11 +49,10 @@ pub fn print_bit(rt: &impl Print, i: usize, bit: u64) -> io::Result<()> {
     text(rt, &[b'0' + (bit % 2) as u8, identifier(i), b'\n'])
 }
 
-// Signal `i`, of some bits, becomes a number.
+// Signal `i`, of some bits, becomes a number. The line is one write.
 pub fn print_bits(rt: &impl Print, i: usize, value: u64) -> io::Result<()> {
-    print!(rt; "b{value:b} ")?;
-    print_identifier(rt, i)?;
-    text(rt, b"\n")
+    let name = char::from(identifier(i));
+    println!(rt; "b{value:b} {name}")
 }
 
 // Signal `i`, of some bits, has no value.

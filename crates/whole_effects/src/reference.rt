@@ -1,6 +1,7 @@
 // The effect of each write on a whole record, made at once and word by word, as document 01's tables
 // give it. It is written apart from the model's byte rule, and the bursts are held to it.
 use edges::State;
+use example_text::code_of;
 
 // A row of the table of edges: the words that the edge takes from the mailbox, as ranges of the first
 // and the last, and the state that it leads to.
@@ -67,7 +68,7 @@ fn zero(record: &mut [u8], last: usize) {
 
 // The state is bits 31:28 of word 00h.
 fn put_state(record: &mut [u8], to: State) {
-    put(record, 0x00, 0x0fff_ffff, u32::from(u8::from(to)) << 28);
+    put(record, 0x00, 0x0fff_ffff, u32::from(code_of(to)) << 28);
 }
 
 fn edge(op: u16, record: &mut [u8], mailbox: &[u8]) {

@@ -52,19 +52,28 @@ pub stored_left : (n first at : ℕ) (image r : List ℕ) → n ≤ first + at
 unfolding before image_byte
 stored_left n first at image r h = word_left _ (first + at) first image r (λ i k. le-ltb i n (omega (arith, k)))
 
--- ---- the loop over the words: k of them are done, and m is the burst at its head
+-- ---- the loop over the words: m is the burst at its head
 
-pub words_again : (f : ℕ → ℕ → ℕ) (first k : ℕ) (r m out : List ℕ) → Burst r first
+pub words_again : (f : ℕ → ℕ → ℕ) (first at : ℕ) (r m out : List ℕ) → Burst r first → at % 4 ≡ 0
+    → m ≡ map_from (before (first + at) f) first r → out ≡ map_from (on_word (first + at) f) first m
+    → out ≡ map_from (before (first + (at + 4)) f) first r
+words_again f first at r m out burst place = words_step f first r at m out (omega (arith, burst.aligned)) place
+
+pub words_all : (f : ℕ → ℕ → ℕ) (first at : ℕ) (r m : List ℕ) → Burst r first → m ≡ map_from (before (first + at) f) first r
+    → burst_size ≤ at → m ≡ map_from f first r
+words_all f first at r m burst e h = words_done f first r at m e (omega (arith, burst.long))
+
+-- the same where k words are done
+pub next_word : (f : ℕ → ℕ → ℕ) (first k : ℕ) (r m out : List ℕ) → Burst r first
     → m ≡ map_from (before (first + k * 4) f) first r → out ≡ map_from (on_word (first + k * 4) f) first m
     → out ≡ map_from (before (first + (k + 1) * 4) f) first r
-words_again f first k r m out burst e w =
+next_word f first k r m out burst e w =
     let next : k * 4 + 4 ≡ (k + 1) * 4 = omega arith in
-    words_step f first r (k * 4) m out (omega (arith, burst.aligned)) (omega arith) e w
-    ∙ ap (λ (n : ℕ). map_from (before (first + n) f) first r) next
+    words_again f first (k * 4) r m out burst (omega arith) e w ∙ ap (λ (n : ℕ). map_from (before (first + n) f) first r) next
 
-pub words_all : (f : ℕ → ℕ → ℕ) (first k : ℕ) (r m : List ℕ) → Burst r first → m ≡ map_from (before (first + k * 4) f) first r
+pub last_word : (f : ℕ → ℕ → ℕ) (first k : ℕ) (r m : List ℕ) → Burst r first → m ≡ map_from (before (first + k * 4) f) first r
     → burst_size / 4 ≤ k → m ≡ map_from f first r
-words_all f first k r m burst e h = words_done f first r (k * 4) m e (omega (arith, burst.long))
+last_word f first k r m burst e h = words_all f first (k * 4) r m burst e (omega (arith, h))
 
 pub length_mapped : (f : ℕ → ℕ → ℕ) (first n : ℕ) (r out : List ℕ) → out ≡ map_from f first r → length r ≡ n → length out ≡ n
 length_mapped f first n r out e h = ap length e ∙ length_map_from f first r ∙ h

@@ -12,13 +12,20 @@ ghost use Rattle.word_moves.specs.Places.{on_word, before, image_byte, Burst, Wo
 use burst_table::BURST;
 use edges::Edge;
 
-// Copies the image's word at `from` to `to` of the burst.
+// Copies the image's word at `from` to `to` of the burst. All four bytes are read before one is
+// written, so that they are moved together.
 pub fn copy_word(image: &[u8], from: usize, burst: &mut [u8], to: usize)
     requires from_in_bounds { from + 4 ≤ length image.now }
     requires to_in_bounds { to + 4 ≤ length burst.old }
     ensures { burst.new ≡ splice to (part from 4 image.now) burst.old }
 {
-    burst[to..to + 4].copy_from_slice(&image[from..from + 4]);
+    let word = [
+        image[from],
+        image[from + 1],
+        image[from + 2],
+        image[from + 3],
+    ];
+    burst[to..to + 4].copy_from_slice(&word);
 }
 
 // Takes the word at `at` of the burst from the image where the edge does.

@@ -67,18 +67,25 @@ pub lent_part : (at n : ℕ) (ys l out : List ℕ) → length ys ≡ n → out �
     → take at l ++ (out ++ drop (at + n - at) (drop at l)) ≡ splice at ys l
 lent_part at n ys l out long e = rw (add-sub_cancel_left, e) (lent_splice at n ys l long)
 
-pub le_bytes_four : (v : ℕ) → to_le_bytes w32 v ≡ le_bytes 4 v
+pub le_bytes_four : (v : ℕ) → le_bytes 4 v ≡ v % 0x100 ∷ v / 0x100 % 0x100 ∷ v / 0x10000 % 0x100 ∷ v / 0x1000000 % 0x100 ∷ []
 unfolding le_bytes
 le_bytes_four v =
     let e : v / 256 / 256 % 256 ≡ v / 65536 % 256 = omega arith in
     let f : v / 256 / 256 / 256 % 256 ≡ v / 16777216 % 256 = omega arith in
     rw (e, f)
 
-pub be_bytes_four : (v : ℕ) → to_be_bytes w32 v ≡ be_bytes 4 v
+pub be_bytes_four : (v : ℕ) → be_bytes 4 v ≡ v / 0x1000000 % 0x100 ∷ v / 0x10000 % 0x100 ∷ v / 0x100 % 0x100 ∷ v % 0x100 ∷ []
 unfolding be_bytes
 be_bytes_four v =
     let e : v / 1 % 256 ≡ v % 256 = omega arith in
     rw e
+
+-- The same bytes as the library gives them.
+pub le_given : (v : ℕ) → to_le_bytes w32 v ≡ le_bytes 4 v
+le_given v = sym (le_bytes_four v)
+
+pub be_given : (v : ℕ) → to_be_bytes w32 v ≡ be_bytes 4 v
+be_given v = sym (be_bytes_four v)
 
 take_length_part : (at n : ℕ) (l : List ℕ) → at + n ≤ length l → length (take n (drop at l)) ≡ n
 unfolding part

@@ -1,8 +1,8 @@
 use Rattle.std.proofs.Common.{◌∙◌}
 use Rattle.words.proofs.Leaves.{lent_part}
 use Rattle.words.proofs.Words.{length_le_bytes}
-use Rattle.register_calls.specs.Bytes.{two_stored}
+use Rattle.register_calls.specs.Bytes.{two_given}
 use Rattle.register_calls.proofs.write_le16.Goals as goal
 
 pub returns : goal.returns
-returns c = lent_part _ 2 _ _ _ (length_le_bytes 2 _) (c.copy_from_slice.ensures.after ∙ c.to_le_bytes.ensures ∙ two_stored _)
+returns c = lent_part _ 2 _ _ _ (length_le_bytes 2 _) (c.copy_from_slice.ensures.after ∙ c.to_le_bytes.ensures ∙ two_given _)

@@ -1,5 +1,5 @@
 use Rattle.std.proofs.Common.{◌∙◌, refl}
-use Rattle.script_device.specs.Laws.{word_told, slot_read, slot_none}
+use Rattle.script_device.specs.Laws.{word_told, slot_some, slot_none}
 use Rattle.script_device.specs.Slots.{command_slot, engine_slot, slot_in}
 use Rattle.words.proofs.Choice.{pick_yes, pick_no}
 use Rattle.script_device.proofs.read_slot.Goals as goal
@@ -13,7 +13,7 @@ unfolding slot_in
 returns-then-same-2 c =
     pick_no _ _ _ _ (word_told _ _ _ _ _ c.same.ensures c.word.ensures c.if-same.false)
     (pick_yes _ _ _ _ (word_told _ _ _ _ _ c.same-2.ensures c.word-2.ensures c.if-same-2.true)
-    (slot_read command_slot _ _ _ _ _ _ c.word-then-same-2.ensures c.numbers.ensures c.in_ok-numbers.was c.command_slot.ensures))
+    (slot_some command_slot _ _ _ _ _ _ c.word-then-same-2.ensures c.numbers.ensures c.in_ok-numbers.was c.command_slot.ensures))
 
 pub returns-in_err-numbers : goal.returns-in_err-numbers
 unfolding slot_in
@@ -36,7 +36,7 @@ returns-then-same-3 c =
     pick_no _ _ _ _ (word_told _ _ _ _ _ c.same.ensures c.word.ensures c.if-same.false)
     (pick_no _ _ _ _ (word_told _ _ _ _ _ c.same-2.ensures c.word-2.ensures c.if-same-2.false)
     (pick_yes _ _ _ _ (word_told _ _ _ _ _ c.same-3.ensures c.word-3.ensures c.if-same-3.true)
-    (slot_read engine_slot _ _ _ _ _ _ c.word-then-same-3.ensures c.numbers-then-same-3.ensures c.in_ok-numbers-2.was c.engine_slot.ensures)))
+    (slot_some engine_slot _ _ _ _ _ _ c.word-then-same-3.ensures c.numbers-then-same-3.ensures c.in_ok-numbers-2.was c.engine_slot.ensures)))
 
 pub returns : goal.returns
 unfolding slot_in
