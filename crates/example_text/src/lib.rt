@@ -1,6 +1,9 @@
 // How the programs that run document 01's examples print one: its label, what the model answers, what
-// 01 gives, and whether the two are the same. And how a queue pair's state is named.
+// 01 gives, and whether the two are the same. And a queue pair's state: its name, and its code as 01 lists it.
 #![tactic(auto)]
+
+ghost use Rattle.std.specs.Prelude.{◌≡◌};
+ghost use Rattle.edges.specs.States.{state_code};
 
 use edges::State;
 use std::convert::AsSlice;
@@ -53,8 +56,10 @@ pub const STATES: [State; 7] = [
     State::Err,
 ];
 
-// A state's code as document 01 lists it. What is expected of the model is made of this, and not of the model's own.
-pub fn code_of(state: State) -> u8 {
+// A state's code as document 01 lists it, in numbers of its own: what is expected of the model is made of these, and of no function of the model.
+pub fn code_of(state: State) -> u8
+    ensures { result ≡ state_code state }
+{
     match state {
         State::Reset => 0,
         State::Init => 1,

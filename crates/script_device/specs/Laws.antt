@@ -1,7 +1,12 @@
 -- What the readers of a line have in hand, turned into what the definitions ask.
-use Rattle.std.specs.Prelude.{◌≡◌, Bool, true, false, List, ℕ, eqb, Option, Some, None, refl, option_and_then}
-use Rattle.std.proofs.Common.{sym, ◌∙◌, ap, eq-eqb, ne_eqb}
+use Rattle.std.specs.Prelude.{◌≡◌, Bool, true, false, List, ℕ, ◌≤◌, eqb, ltb, Option, Some, None, refl, option_and_then}
+use Rattle.std.proofs.Common.{sym, ◌∙◌, ap, eq-eqb, ne_eqb, le-ltb}
+use Rattle.words.proofs.Choice.{pick_no}
 use Rattle.script_words.specs.Words.{same_word}
+use Rattle.script_lines.specs.Lines.{nth}
+use Rattle.slot_requests.specs.Requests.{command_in}
+use Rattle.requests.specs.declared.Request.{Request}
+use Rattle.script_device.specs.Slots.{occupied_as, command_slot}
 use Rattle.slots.specs.declared.Slot.{Slot}
 
 -- a word that was taken out of the line and compared
@@ -14,6 +19,19 @@ count_is w s k e p = eq-eqb s k (sym e ∙ p)
 
 pub count_other : (w s k : ℕ) → w ≡ s → (w ≡ k → ⊥) → eqb s k ≡ false
 count_other w s k e n = ne_eqb s k (λ (p : s ≡ k). n (e ∙ p))
+
+pub request_read : (how : List ℕ) (moved : ℕ) (f g : Option Request) (r : Option Slot) → f ≡ g → r ≡ occupied_as how moved f → r ≡ occupied_as how moved g
+request_read how moved f g r e k = k ∙ ap (occupied_as how moved) e
+
+-- a command's numbers that are all in their ranges
+pub command_placed : (how n : List ℕ) (f : Option Request) (r : Option Slot) → nth n 0 ≤ 0xfff → nth n 1 ≤ 255 → nth n 3 ≤ 255
+    → f ≡ command_in (nth n 0) (nth n 1) (nth n 2) → r ≡ occupied_as how (nth n 3) f → r ≡ command_slot how n
+unfolding command_slot
+command_placed how n f r a b d e k =
+    pick_no (ltb 0xfff (nth n 0)) _ _ _ (le-ltb 0xfff (nth n 0) a)
+    (pick_no (ltb 255 (nth n 1)) _ _ _ (le-ltb 255 (nth n 1) b)
+    (pick_no (ltb 255 (nth n 3)) _ _ _ (le-ltb 255 (nth n 3) d)
+    (request_read how (nth n 3) f (command_in (nth n 0) (nth n 1) (nth n 2)) r e k)))
 
 -- a slot from a word and the numbers of a line
 pub slot_read : (f : List ℕ → Option (List ℕ) → Option Slot) (w x : List ℕ) (n m : Option (List ℕ)) (r : Option Slot) → w ≡ x → n ≡ m → r ≡ f w n

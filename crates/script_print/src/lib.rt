@@ -32,8 +32,14 @@ pub fn bytes(rt: &impl Print, bytes: &[u8]) -> io::Result<()> {
     if bytes.is_empty() {
         return text(rt, b"-");
     }
-    for part in bytes.chunks(256) {
+    // Parts of exactly 256 bytes first, then the rest: the compiler leaves out the test of a length that it knows.
+    let parts = bytes.chunks_exact(256);
+    let rest = parts.remainder();
+    for part in parts {
         some_bytes(rt, part)?;
+    }
+    if !rest.is_empty() {
+        some_bytes(rt, rest)?;
     }
     Ok(())
 }

@@ -1,11 +1,17 @@
 -- What the reader of a state has in hand, turned into what the definitions ask.
 use Rattle.std.specs.Prelude.{◌≡◌, refl, List, ℕ, ◌≤◌, ◌<◌, eqb, ltb, Option, Some, None}
-use Rattle.std.proofs.Common.{lt-ltb, le-ltb}
+use Rattle.std.proofs.Common.{◌∙◌, ap, lt-ltb, le-ltb}
 use Rattle.words.proofs.Choice.{pick_yes, pick_no}
 use Rattle.script_lines.specs.Lines.{nth}
 use Rattle.script_states.specs.States.{logs_of, with_logs, state_in}
 use Rattle.context.specs.declared.Logs.{Logs}
 use Rattle.possible.specs.declared.Hca.{Hca}
+
+pub logs_read : (f g : Option Logs) (o len : ℕ) (r : Option Hca) → f ≡ g → r ≡ with_logs f o len → r ≡ with_logs g o len
+logs_read f g o len r e k = k ∙ ap (λ (x : Option Logs). with_logs x o len) e
+
+pub state_read : (n m : Option (List ℕ)) (r : Option Hca) → n ≡ m → r ≡ state_in n → r ≡ state_in m
+state_read n m r e k = k ∙ ap state_in e
 
 pub no_numbers : (f : Option (List ℕ)) → f ≡ None → None ≡ state_in f
 unfolding state_in

@@ -1,11 +1,11 @@
 -- What the code of the leaves leaves behind, in the definitions' terms: four bytes read or written, a copy, a fill.
-use Rattle.std.specs.Prelude.{◌≡◌, List, [], ◌∷◌, ◌++◌, ℕ, suc, ◌+◌, ◌-◌, ◌*◌, ◌/◌, ◌%◌, ◌≤◌, length, get_or, take, drop, set, replicate}
+use Rattle.std.specs.Prelude.{◌≡◌, List, [], ◌∷◌, ◌++◌, ℕ, suc, ◌+◌, ◌-◌, ◌*◌, ◌/◌, ◌%◌, ◌≤◌, ◌<◌, length, get_or, take, drop, set, replicate}
 use Rattle.std.proofs.Common.{sym, ◌∙◌, ap, append_assoc, append-nil, add-one, arith, length-drop, drop_of_length-le, drop-cons, take_all, drop-drop}
 use Rattle.std.proofs.Math.Nat.{add-sub_cancel_left}
 use Rattle.std.proofs.Math.Numerals.{add-two, add-three}
-use Rattle.std.proofs.lemmas.List.Edits.{sets-eq}
+use Rattle.std.proofs.lemmas.List.Edits.{fill_more, sets-eq}
 use Rattle.std.proofs.lemmas.List.{length-replicate}
-use Rattle.std.proofs.Math.Seq.{take-length}
+use Rattle.std.proofs.Math.Seq.{take-length, drop-length}
 use Rattle.words.specs.Parts.{part, splice}
 use Rattle.words.proofs.Parts.{length_part, lent_splice}
 use Rattle.words.specs.Words.{le_value, be_value, le_bytes, be_bytes, le32, be32}
@@ -86,6 +86,17 @@ le_given v = sym (le_bytes_four v)
 
 pub be_given : (v : ℕ) → to_be_bytes w32 v ≡ be_bytes 4 v
 be_given v = sym (be_bytes_four v)
+
+-- A loop that fills a list from the front: m is the list at the loop's head.
+pub fill_again : (n v : ℕ) (l m : List ℕ) → m ≡ replicate n v ++ drop n l → length m ≡ length l → n < length m
+    → set m n v ≡ replicate (n + 1) v ++ drop (n + 1) l
+fill_again n v l m e k h = rw e (fill_more n v l (omega arith))
+
+pub fill_done : (n v : ℕ) (l m : List ℕ) → m ≡ replicate n v ++ drop n l → length m ≡ length l
+    → length m ≤ n → n ≤ length l → m ≡ replicate (length l) v
+fill_done n v l m e k p q =
+    let i : n ≡ length l = omega arith in
+    e ∙ rw (i, drop-length, append-nil)
 
 take_length_part : (at n : ℕ) (l : List ℕ) → at + n ≤ length l → length (take n (drop at l)) ≡ n
 unfolding part
