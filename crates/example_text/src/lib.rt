@@ -56,7 +56,8 @@ pub const STATES: [State; 7] = [
     State::Err,
 ];
 
-// A state's code as document 01 lists it, in numbers of its own: what is expected of the model is made of these, and of no function of the model.
+// A state's code as document 01 lists it, in numbers of its own: what is expected of the model is made
+// of these, and of no function of the model.
 pub fn code_of(state: State) -> u8
     ensures { result ≡ state_code state }
 {
